@@ -1,0 +1,91 @@
+// What every whole call asks first, and a block's payload on request. Rests on the rest of this crate,
+// on blocks and on refusals.
+use crate::Admission;
+use crate::Magic;
+use crate::PayloadAnswer;
+use crate::Recording;
+use blocks::BLOCK;
+use blocks::FilePlace;
+use blocks::LIMIT;
+use blocks::PAYLOAD;
+use blocks::StreamPlace;
+use refusals::Refusal;
+ghost use mathlib.Core.Path.{_≡_};
+ghost use Prim.Native.Nat.{_*_};
+ghost use lib.ListN.{getD};
+ghost use Rattle.refusals.specs.Said.{demand};
+ghost use Rattle.detect.specs.Admissions.{admissionAt, admission, admissionSays};
+ghost use Rattle.detect.specs.Payload.{payloadPlace, payloadSays, payloadShown};
+
+// A file whose audio starts there: the magic is one that the call takes, the limit, the header whole.
+fn admit_at(file: &[u8], takes: bool, start: FilePlace) -> Admission
+    ensures { λ r. ⌜ admissionSays r ≡ demand takes 1 0 (admissionAt (now (file .entry)) (start .0)) ⌝ }
+{
+    let first = start.0;
+    if !takes {
+        return Admission::Refused(Refusal::Magic);
+    }
+    if LIMIT < file.len() {
+        return Admission::Refused(Refusal::Limit(LIMIT));
+    }
+    if file.len() < first {
+        return Admission::Refused(Refusal::Header(start));
+    }
+    let blocks = blocks::whole_blocks(file.len(), start);
+    Admission::Admitted(Recording { start, blocks })
+}
+
+// Where the audio of a DSS file starts.
+fn dss_audio_start(file: &[u8]) -> FilePlace
+    ensures { λ r. ⌜ r .0 ≡ 512 * getD (now (file .entry)) 0 0 ⌝ }
+{
+    FilePlace(BLOCK * tables::wide(crate::byte_or_zero(file, 0)))
+}
+
+// For the crates above. Takes a file of the magics that a call reads, or refuses it by 1, 2 or 3.
+pub fn admit(file: &[u8], dss: bool, ds2: bool) -> Admission
+    ensures { λ r. ⌜ admissionSays r ≡ admission (now (file .entry)) dss ds2 ⌝ }
+{
+    let magic = crate::magic_of(file);
+    match magic {
+        Magic::Dss => admit_at(file, dss, dss_audio_start(file)),
+        Magic::Ds2 => admit_at(file, ds2, crate::ds2::detect_ds2_audio_start(file)),
+        Magic::Encrypted => Admission::Refused(Refusal::Magic),
+        Magic::Grundig => Admission::Refused(Refusal::Magic),
+        Magic::Other => Admission::Refused(Refusal::Magic),
+    }
+}
+
+// Where in the file the payload of a block stands, or why it cannot be shown.
+pub fn payload_place(file: &[u8], block: usize) -> PayloadAnswer
+    ensures { λ r. ⌜ payloadSays r ≡ payloadPlace (now (file .entry)) block ⌝ }
+{
+    let admission = admit(file, true, true);
+    match admission {
+        Admission::Refused(why) => PayloadAnswer::Refused(why),
+        Admission::Admitted(recording) => {
+            let start = recording.start;
+            let blocks = recording.blocks;
+            if blocks <= block {
+                return PayloadAnswer::Refused(Refusal::Absent);
+            }
+            PayloadAnswer::At(blocks::in_file(start, StreamPlace(PAYLOAD * block)))
+        }
+    }
+}
+
+// The payload of a block, as those 506 bytes of the file itself; an empty part where payload_place refuses.
+pub fn payload(file: &[u8], block: usize) -> &[u8]
+    ensures { λ r. ⌜ now r ≡ payloadShown (now (file .entry)) block ⌝ }
+{
+    let admission = admit(file, true, true);
+    let Admission::Admitted(recording) = admission else {
+        return &file[0..0];
+    };
+    let start = recording.start;
+    let blocks = recording.blocks;
+    if blocks <= block {
+        return &file[0..0];
+    }
+    blocks::payload_part(file, start, block)
+}

@@ -1,0 +1,122 @@
+// The bench's examples on the code, and detection's answer for each type: a line each. What they say of the definitions is in
+// specs/, and that it holds in proofs/. Rests on every crate that an example speaks of.
+use blocks::FilePlace;
+use detect::AudioFormat;
+use detect::Kind;
+use libc::STDOUT_FILENO;
+ghost use mathlib.Core.Path.{_≡_};
+ghost use Prim.Native.Nat.{_≤_};
+ghost use lib.ListN.{length};
+
+fn text(bytes: &[u8]) {
+    io::write_all(STDOUT_FILENO, bytes);
+}
+
+fn number(n: usize) {
+    text(b" ");
+    io::print_decimal(STDOUT_FILENO, n as u64);
+}
+
+// So many bytes of a packet, from a place on.
+fn show(bytes: &[u8; 42], at: usize, n: usize) {
+    let mut k = 0;
+    while k < n {
+        let i = (at % 42 + k % 42) % 42;
+        number(tables::wide(bytes[i]));
+        k += 1;
+    }
+}
+
+// The bytes 0 to 39.
+fn rising() -> [u8; 40]
+    ensures { λ r. ⌜ length r ≡ 40 ⌝ }
+{
+    let mut read = [0u8; 40];
+    let mut k = 0;
+    while k < 40 {
+        read[k] = (k % 256) as u8;
+        k += 1;
+    }
+    read
+}
+
+// 4: how the packet of a swapped read begins and ends.
+fn example_4() {
+    let read = rising();
+    let bytes = packets::packet_bytes(&read, 0, true, 99);
+    text(b"4: a swapped packet begins");
+    show(&bytes, 0, 6);
+    text(b" and ends");
+    show(&bytes, 38, 4);
+    text(b"\n");
+}
+
+// 7: DSS starts in block 0.
+fn example_7() {
+    text(b"7: DSS starts");
+    number(packets::dss_start(0, 255, true).0);
+    number(packets::dss_start(0, 2, true).0);
+    number(packets::dss_start(0, 3, true).0);
+    text(b"\n");
+}
+
+// A DS2 file of one block that announces a frame of this type.
+fn one_block(byte: u8) -> [u8; 2048] {
+    let mut file = [0u8; 2048];
+    file[0] = 1;
+    file[1] = b'd';
+    file[2] = b's';
+    file[3] = b'2';
+    file[1538] = 1;
+    file[1540] = byte;
+    file
+}
+
+fn is_reported_sp(file: &[u8]) -> bool {
+    let format = detect::detect_format(file);
+    match format {
+        AudioFormat::Ds2Sp => true,
+        _ => false,
+    }
+}
+
+fn is_read_qp(file: &[u8]) -> bool {
+    let byte = detect::ds2::detect_ds2_format_type(file, FilePlace(1536));
+    let kind = detect::ds2::kind_of(byte);
+    match kind {
+        Kind::Qp => true,
+        _ => false,
+    }
+}
+
+// 1 where a file of this type is reported as SP and read as QP.
+fn is_otherwise(byte: u8) -> usize
+    ensures { λ r. ⌜ r ≤ 1 ⌝ }
+{
+    let file = one_block(byte);
+    if is_reported_sp(&file) {
+        if is_read_qp(&file) {
+            return 1;
+        }
+    }
+    0
+}
+
+// How many of the types 8 to 255 are reported as SP and read as QP.
+fn reported_otherwise() -> usize {
+    let mut n: usize = 0;
+    let mut byte: usize = 8;
+    while byte < 256 {
+        n += is_otherwise((byte % 256) as u8);
+        byte += 1;
+    }
+    n
+}
+
+fn main() {
+    example_4();
+    example_7();
+    text(b"types reported as SP and read as QP:");
+    number(reported_otherwise());
+    text(b"\n");
+}

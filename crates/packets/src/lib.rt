@@ -1,0 +1,232 @@
+// SP packets: one read of the payload stream gives one packet. Every function here is for the crates above.
+// Rests on blocks, for places and the stream.
+use blocks::FilePlace;
+use blocks::PAYLOAD;
+use blocks::StreamPlace;
+ghost use mathlib.Core.Path.{_≡_};
+ghost use Prim.Native.Nat.{_+_, _*_, _≤_, _<_, _^_, _%_};
+ghost use mathlib.Core.Bool.{true, false, cond};
+ghost use lib.ListN.{length, getD};
+ghost use lib.Dec.{eqb};
+ghost use Rattle.tables.specs.Table.{table};
+ghost use Rattle.tables.specs.Lent.{Leaves};
+ghost use Rattle.blocks.specs.Places.{Whole, streamAt};
+ghost use Rattle.packets.specs.Packet.{readSize, packetByte, carryAfter, from, fileCount, IsPacket};
+ghost use Rattle.packets.specs.Start.{dssStart};
+ghost use Rattle.packets.specs.Gathered.{bytesOf, Shifted, Blended, Window};
+
+// A packet, with what the next read needs.
+pub struct Packet {
+    pub bytes: [u8; 42],
+    // How many bytes of its read came from the file.
+    pub count: u8,
+    pub carry: u8,
+    pub next: StreamPlace,
+}
+
+// How many bytes a read takes.
+pub fn read_size(swap: bool) -> usize
+    ensures { λ r. ⌜ (r ≡ readSize swap) × (r ≤ 42) ⌝ }
+{
+    if swap { 40 } else { 42 }
+}
+
+// How many bytes of a read at q come from a stream of so many bytes.
+pub fn file_count(long: usize, q: StreamPlace, swap: bool) -> u8
+    ensures { λ r. ⌜ r ≡ fileCount long swap (q .0) ⌝ }
+{
+    let at = q.0;
+    if long <= at {
+        return 0;
+    }
+    let count = tables::lesser(read_size(swap), long - at);
+    count as u8
+}
+
+fn swap_bit(swap: bool) -> usize
+    ensures { λ r. ⌜ (r ≡ cond swap 1 0) × (r ≤ 1) ⌝ }
+{
+    if swap { 1 } else { 0 }
+}
+
+// Where the frames of a DSS block start, by its number, its byte 1 and its flag.
+pub fn dss_start(block: usize, first: usize, swap: bool) -> StreamPlace
+    requires { ⌜ (block ≤ 2 ^ 48) × (first ≤ 255) ⌝ }
+    ensures { λ r. ⌜ r .0 ≡ dssStart block first swap ⌝ }
+{
+    let base = PAYLOAD * block;
+    let far = 2 * first + 2 * swap_bit(swap);
+    if far < 6 {
+        return StreamPlace(base);
+    }
+    StreamPlace(base + tables::lesser(PAYLOAD, far - 6))
+}
+
+// The 42 bytes that lie together there, byte 40 set to 0: an unswapped read's packet.
+fn plain(src: &[u8], at: usize) -> [u8; 42]
+    requires { ⌜ at + 42 ≤ length (now src) ⌝ }
+    ensures { λ r. ⌜ r ≡ table 42 (packetByte false 0 (from (bytesOf (now (src .entry))) at)) ⌝ }
+{
+    let mut bytes = [0u8; 42];
+    let mut k = 0;
+    while k < 42 {
+        bytes[k] = src[at + k];
+        k += 1;
+    }
+    bytes[40] = 0;
+    bytes
+}
+
+// The 40 bytes of a swapped read, 3 places on: so that a blend of two shifts gives the packet.
+fn shifted(src: &[u8], at: usize) -> [u8; 52]
+    requires { ⌜ at + 40 ≤ length (now src) ⌝ }
+    ensures { λ r. ⌜ Shifted (from (bytesOf (now (src .entry))) at) r ⌝ }
+{
+    let mut read = [0u8; 52];
+    let mut k = 0;
+    while k < 40 {
+        read[3 + k] = src[at + k];
+        k += 1;
+    }
+    read
+}
+
+fn either(k: usize, even: u8, odd: u8) -> u8
+    ensures { λ r. ⌜ r ≡ cond (eqb (k % 2) 0) even odd ⌝ }
+{
+    if k % 2 == 0 { even } else { odd }
+}
+
+// The swapped bytes in their places; places 1, 40 and those from 42 on are idle.
+fn blended(src: &[u8], at: usize) -> [u8; 48]
+    requires { ⌜ at + 40 ≤ length (now src) ⌝ }
+    ensures { λ r. ⌜ Blended (from (bytesOf (now (src .entry))) at) r ⌝ }
+{
+    let read = shifted(src, at);
+    let mut blend = [0u8; 48];
+    let mut k = 0;
+    while k < 48 {
+        blend[k] = either(k, read[k + 4], read[k]);
+        k += 1;
+    }
+    blend
+}
+
+// A swapped read's packet.
+fn swapped(src: &[u8], at: usize, carry: u8) -> [u8; 42]
+    requires { ⌜ at + 40 ≤ length (now src) ⌝ }
+    ensures { λ r. ⌜ r ≡ table 42 (packetByte true carry (from (bytesOf (now (src .entry))) at)) ⌝ }
+{
+    let blend = blended(src, at);
+    let mut bytes = [0u8; 42];
+    let mut k = 0;
+    while k < 42 {
+        bytes[k] = blend[k];
+        k += 1;
+    }
+    bytes[1] = carry;
+    bytes[40] = 0;
+    bytes
+}
+
+// A packet from a read whose bytes lie together.
+pub fn packet_bytes(src: &[u8], at: usize, swap: bool, carry: u8) -> [u8; 42]
+    requires { ⌜ at + readSize swap ≤ length (now src) ⌝ }
+    ensures { λ r. ⌜ r ≡ table 42 (packetByte swap carry (from (bytesOf (now (src .entry))) at)) ⌝ }
+{
+    if swap {
+        return swapped(src, at, carry);
+    }
+    plain(src, at)
+}
+
+// What is carried after a read whose bytes lie together.
+pub fn carry_after(src: &[u8], at: usize, swap: bool, carry: u8) -> u8
+    requires { ⌜ at + readSize swap ≤ length (now src) ⌝ }
+    ensures { λ r. ⌜ r ≡ carryAfter swap carry (from (bytesOf (now (src .entry))) at) ⌝ }
+{
+    if swap {
+        return carry;
+    }
+    let last = at + 40;
+    src[last]
+}
+
+// Copies so many bytes of the file to a place of the window.
+fn take_run(window: &mut [u8; 42], to: usize, file: &[u8], at: usize, n: usize)
+    requires { ⌜ (length (now window) ≡ 42) × (to + n ≤ 42) × (at + n ≤ length (now file)) ⌝ }
+    ensures { λ _. ⌜ Leaves (now (window .entry)) to n (λ k. getD (now (file .entry)) (at + k) 0) (now (window .exit)) ⌝ }
+{
+    let mut k = 0;
+    while k < n {
+        window[to + k] = file[at + k];
+        k += 1;
+    }
+}
+
+// The 42 bytes of the stream from q on, by one run in each of two blocks; 0 past the stream's end.
+fn seam(file: &[u8], a: FilePlace, blocks: usize, q: StreamPlace) -> [u8; 42]
+    requires { ⌜ Whole (now file) (a .0) blocks × (q .0 < 2 ^ 62) ⌝ }
+    ensures { λ r. ⌜ Window (streamAt (now (file .entry)) (a .0) blocks) (q .0) r ⌝ }
+{
+    let mut window = [0u8; 42];
+    let at = q.0;
+    let block = at / PAYLOAD;
+    if blocks <= block {
+        return window;
+    }
+    let here = blocks::in_file(a, q);
+    let first = here.0;
+    let n = tables::lesser(PAYLOAD - at % PAYLOAD, 42);
+    take_run(&mut window, 0, file, first, n);
+    let next = block + 1;
+    if blocks <= next {
+        return window;
+    }
+    let there = blocks::in_file(a, StreamPlace(PAYLOAD * next));
+    let second = there.0;
+    let m = 42 - n;
+    take_run(&mut window, n, file, second, m);
+    window
+}
+
+// The packet that a read at q gives.
+pub fn read_packet(
+    file: &[u8],
+    a: FilePlace,
+    blocks: usize,
+    q: StreamPlace,
+    swap: bool,
+    carry: u8,
+) -> Packet
+    requires { ⌜ Whole (now file) (a .0) blocks × (q .0 < 2 ^ 62) ⌝ }
+    ensures { λ r. ⌜ IsPacket (streamAt (now (file .entry)) (a .0) blocks) (506 * blocks) swap carry (q .0) r ⌝ }
+{
+    let at = q.0;
+    let next = at + read_size(swap);
+    if at / PAYLOAD < blocks {
+        if at % PAYLOAD <= 464 {
+            let here = blocks::in_file(a, q);
+            let first = here.0;
+            let bytes = packet_bytes(file, first, swap, carry);
+            let after = carry_after(file, first, swap, carry);
+            let size = read_size(swap);
+            return Packet {
+                bytes,
+                count: size as u8,
+                carry: after,
+                next: StreamPlace(next),
+            };
+        }
+    }
+    let window = seam(file, a, blocks, q);
+    let bytes = packet_bytes(&window, 0, swap, carry);
+    let after = carry_after(&window, 0, swap, carry);
+    let count = file_count(PAYLOAD * blocks, q, swap);
+    Packet {
+        bytes,
+        count,
+        carry: after,
+        next: StreamPlace(next),
+    }
+}

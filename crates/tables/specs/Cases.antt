@@ -1,0 +1,18 @@
+-- Two numbers are in one order or the other, and equal or not: what a proof by cases goes by.
+-- Assumes nothing.
+use Prim.Native.Nat.{ℕ, _≤_, _<_}
+use mathlib.Core.Path.{_≡_}
+use mathlib.Core.Bool.{Bool, true, false, cond}
+use native.Mathlib.Decide.{decLe, ℕ-discrete}
+use native.Mathlib.Nat.{lt-of-not-le}
+
+pub by-order {ℓ} : {X : Type ℓ} (a b : ℕ) → (a < b → X) → (b ≤ a → X) → X
+by-order a b below above = elim (decLe b a) [ yes h ↦ above h | no h ↦ below (lt-of-not-le h) ]
+
+pub by-equal {ℓ} : {X : Type ℓ} (a b : ℕ) → (a ≡ b → X) → ((a ≡ b → ⊥) → X) → X
+by-equal a b same other = elim (ℕ-discrete a b) [ yes e ↦ same e | no e ↦ other e ]
+
+-- a choice of two numbers that are both at most n
+pub either-most : (test : Bool) {x y n : ℕ} → x ≤ n → y ≤ n → cond test x y ≤ n
+either-most true p q = p
+either-most false p q = q

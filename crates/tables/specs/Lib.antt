@@ -1,0 +1,5 @@
+pub mod Cases
+pub mod Table
+pub mod Lent
+pub mod Parts
+pub mod Tests

@@ -1,0 +1,18 @@
+// Numbers of the machine, for the crates above: a byte widened, the lesser of two. The laws of lists
+// that a function writes into stand in specs/. Nothing here knows the format. Rests on nothing.
+ghost use mathlib.Core.Path.{_≡_};
+ghost use Prim.Native.Nat.{_≤_, min};
+
+// For the crates above. A byte as a number: a cast that asks no proof of its caller.
+pub fn wide(x: u8) -> usize
+    ensures { λ r. ⌜ (r ≡ x) × (r ≤ 255) ⌝ }
+{
+    x as usize
+}
+
+// For the crates above. The lesser of two numbers.
+pub fn lesser(a: usize, b: usize) -> usize
+    ensures { λ r. ⌜ r ≡ min a b ⌝ }
+{
+    if a < b { a } else { b }
+}
