@@ -1,6 +1,6 @@
 -- A block's header: byte 0 bit 7 is the swap flag, byte 1 gives the first frame's place, byte 2 is the count of announced frames,
 -- byte 4 is the type. And the sum of the counts. Assumes nothing.
-use Prim.Native.Nat.{ℕ, zero, suc, _+_, _*_, _/_, _%_, _≤_, _<_}
+use Prim.Native.Nat.{ℕ, zero, suc, _+_, _/_, _%_, _<_}
 use mathlib.Core.Path.{_≡_, sym, ap, _∙_}
 use mathlib.Core.List.{List}
 use mathlib.Core.Bool.{Bool}

@@ -2,7 +2,6 @@
 // Every function here is for the crates above. Rests on tables.
 ghost use mathlib.Core.Path.{_≡_};
 ghost use Prim.Native.Nat.{_+_, _*_, _<_, _≤_, _^_};
-ghost use lib.ListN.{length};
 ghost use Rattle.blocks.specs.Places.{wholeBlocks, Whole, fileOf, streamAt, payloadOf};
 ghost use Rattle.blocks.specs.Headers.{headerByte, swapOf, countOf, announcedIn};
 

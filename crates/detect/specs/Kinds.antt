@@ -13,7 +13,7 @@ use Rattle.blocks.specs.Headers.{countOf, typeOf}
 use Rattle.detect.specs.declared.Kind.{Kind}
 use Rattle.detect.specs.declared.Kind.the-variants.{Sp, Qp, Qp7}
 use Rattle.detect.specs.declared.AudioFormat.{AudioFormat}
-use Rattle.detect.specs.declared.AudioFormat.the-variants.{None, DssSp, Ds2Sp, Ds2Qp, Ds2Qp7, GrundigSp}
+use Rattle.detect.specs.declared.AudioFormat.the-variants.{Ds2Sp, Ds2Qp, Ds2Qp7}
 
 -- of n blocks from number b on, byte 4 of the first with byte 2 above 0, else 0
 unfoldable pub firstType : List ℕ → ℕ → ℕ → ℕ → ℕ

@@ -1,8 +1,8 @@
 -- The magic: a file's first four bytes. One definition, which detection and every whole call go by.
 -- Assumes nothing.
-use Prim.Native.Nat.{ℕ, _*_}
+use Prim.Native.Nat.{ℕ}
 use mathlib.Core.List.{List}
-use mathlib.Core.Bool.{Bool, true, false, cond, _&&_, _||_}
+use mathlib.Core.Bool.{Bool, cond, _&&_, _||_}
 use lib.ListN.{getD, length}
 use lib.Dec.{ltb, eqb}
 use Rattle.detect.specs.declared.Magic.{Magic}

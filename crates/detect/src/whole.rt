@@ -78,8 +78,8 @@ pub fn payload_place(file: &[u8], block: usize) -> PayloadAnswer
 pub fn payload(file: &[u8], block: usize) -> &[u8]
     ensures { λ r. ⌜ now r ≡ payloadShown (now (file .entry)) block ⌝ }
 {
-    let admission = admit(file, true, true);
-    let Admission::Admitted(recording) = admission else {
+    let asked = admit(file, true, true);
+    let Admission::Admitted(recording) = asked else {
         return &file[0..0];
     };
     let start = recording.start;

@@ -1,7 +1,7 @@
 -- What a longer stream keeps: a packet whose read is complete, and whose carried byte is the same, does not change.
 -- Assumes nothing.
 use Prim.Native.Nat.{ℕ, zero, suc, _+_, _-_, _%_, _≤_, _<_}
-use mathlib.Core.Path.{_≡_, refl, sym, ap, _∙_}
+use mathlib.Core.Path.{_≡_, refl, ap, _∙_}
 use mathlib.Core.Bool.{Bool, true, false, cond}
 use native.Mathlib.Omega.{arith}
 use borrow.Author.Tests.{eq-eqb, ne-eqb}
@@ -10,7 +10,7 @@ use Rattle.tables.specs.Cases.{by-equal}
 use Rattle.tables.specs.Table.{same-table}
 use Rattle.packets.specs.declared.Packet.{Packet}
 use Rattle.packets.specs.Packet.{readSize, swappedByte, packetByte, carryAfter, from, fileCount, isWhole, whole-says, IsPacket}
-use Rattle.packets.specs.Walk.{Walk, step, steps}
+use Rattle.packets.specs.Walk.{Walk, steps}
 
 -- two streams agree below n
 abbrev pub Agree : (ℕ → ℕ) → (ℕ → ℕ) → ℕ → Type 0

@@ -1,12 +1,13 @@
 -- An SP packet: 42 bytes from one read of the payload stream, whose bytes c are a function of their number in the read.
 -- Assumes nothing.
-use Prim.Native.Nat.{ℕ, _+_, _-_, _%_, _≤_, min}
-use mathlib.Core.Path.{_≡_}
+use Prim.Native.Nat.{ℕ, _+_, _-_, _%_, _≤_, _<_, min}
+use mathlib.Core.Path.{_≡_, refl}
 use mathlib.Core.List.{List}
 use mathlib.Core.Bool.{Bool, true, false, cond}
 use native.Mathlib.Omega.{arith}
-use borrow.Author.Tests.{eq-eqb, eqb-true}
+use borrow.Author.Tests.{eq-eqb, eqb-true, eqb-false}
 use lib.Dec.{eqb}
+use Rattle.tables.specs.Cases.{by-order}
 use Rattle.tables.specs.Table.{table}
 use Rattle.packets.specs.declared.Packet.{Packet}
 
@@ -69,6 +70,30 @@ unfolding isWhole fileCount
 whole-if n swap q h =
     let all : min (readSize swap) (n - q) ≡ readSize swap = omega arith in
     eq-eqb (min (readSize swap) (n - q)) (readSize swap) all
+
+pub short-says : (n : ℕ) (swap : Bool) (q : ℕ) → isWhole n swap q ≡ false → n < q + readSize swap
+unfolding isWhole fileCount
+short-says n swap q e =
+    let less : min (readSize swap) (n - q) ≡ readSize swap → ⊥ = eqb-false (min (readSize swap) (n - q)) (readSize swap) e in
+    by-order n (q + readSize swap) (λ h. h) (λ h. absurd (less (omega arith)))
+
+-- a whole packet's count is its read size, a short one's what the stream has left
+pub count-whole : (n : ℕ) (swap : Bool) (q : ℕ) → q + readSize swap ≤ n → fileCount n swap q ≡ readSize swap
+unfolding fileCount
+count-whole n swap q h = omega arith
+
+pub count-short : (n : ℕ) (swap : Bool) (q : ℕ) → n ≤ q + readSize swap → fileCount n swap q ≡ n - q
+unfolding fileCount
+count-short n swap q h = omega arith
+
+-- a swapped read carries on what it was given, an unswapped one its byte 40
+pub carry-kept : (carry : ℕ) (c : ℕ → ℕ) → carryAfter true carry c ≡ carry
+unfolding carryAfter
+carry-kept carry c = refl
+
+pub carry-new : (carry : ℕ) (c : ℕ → ℕ) → carryAfter false carry c ≡ c 40
+unfolding carryAfter
+carry-new carry c = refl
 
 -- two packets that a read may give are the same
 packet : List ℕ → ℕ → ℕ → ℕ → Packet

@@ -1,13 +1,12 @@
-use Prim.Native.Nat.{_+_, _*_, _-_, _≤_}
+-- `blocks::announced` meets its contract: the sum so far is what the blocks so far announce.
+-- Assumes nothing.
+use Prim.Native.Nat.{_*_, _-_, _≤_}
 use mathlib.Core.Path.{_≡_}
 use native.Mathlib.Omega.{arith}
 use Rattle.blocks.specs.Headers.{announcedIn, announced-more}
 use borrow.Author.Needs.{needs}
 use Rattle.blocks.proofs.announced.Statement.{statement}
 use Rattle.blocks.proofs.announced.Tie as tie
-use Rattle.blocks.proofs.announced.Reads as reads
-use Rattle.blocks.proofs.announced.Lts as lts
-use Rattle.blocks.proofs.count_byte.Reads as count-byte-reads
 
 abbrev Inv-loop : tie.InvT-loop
 Inv-loop file a blocks sum₀ block₀ sum block = (block ≤ blocks) × ((sum ≡ announcedIn file (a .0) block) × (sum ≤ 255 * block))
@@ -15,33 +14,26 @@ Inv-loop file a blocks sum₀ block₀ sum block = (block ≤ blocks) × ((sum �
 abbrev μ-loop : tie.MeasureT-loop
 μ-loop file a blocks sum₀ block₀ sum block = blocks - block
 
--- src/lib.rt:88:5
 loop-holds : tie.Need-loop-holds Inv-loop μ-loop
 unfolding announcedIn
 loop-holds c = search needs
 
--- src/lib.rt:89:16
 count-byte-requires : tie.Need-count-byte-requires Inv-loop μ-loop
 count-byte-requires c κs = search needs
 
--- src/lib.rt:89:9
 add-sum : tie.Need-add-sum Inv-loop μ-loop
 add-sum c = search needs
 
--- src/lib.rt:90:9
 add-block : tie.Need-add-block Inv-loop μ-loop
 add-block c = search needs
 
--- src/lib.rt:88:5
 loop-less : tie.Need-loop-less Inv-loop μ-loop
 loop-less c = search needs
 
--- src/lib.rt:88:5
 loop-again : tie.Need-loop-again Inv-loop μ-loop
 loop-again c =
     (search needs, (rw announced-more (omega arith), search needs))
 
--- src/lib.rt:82:1
 returns : tie.Need-returns Inv-loop μ-loop
 returns c =
     let l = c .before .loop in

@@ -1,3 +1,5 @@
+-- `blocks::stream_byte` meets its contract: inside the stream it is the file's byte at the converted place, past its end 0.
+-- Assumes nothing.
 use mathlib.Core.Path.{ap, sym, _∙_}
 use Prim.Native.Nat.{ℕ}
 use lib.ListN.{getD}
@@ -6,30 +8,22 @@ use Rattle.blocks.specs.Places.{stream-in, stream-past}
 use borrow.Author.Needs.{needs}
 use Rattle.blocks.proofs.stream_byte.Statement.{statement}
 use Rattle.blocks.proofs.stream_byte.Tie as tie
-use Rattle.blocks.proofs.stream_byte.Reads as reads
-use Rattle.blocks.proofs.stream_byte.Lts as lts
-use Rattle.blocks.proofs.in_file.Reads as in-file-reads
 
--- src/lib.rt:112:13
 mul-if1 : tie.Need-mul-if1
 mul-if1 c = search needs
 
--- src/lib.rt:113:13
 in-file-requires : tie.Need-in-file-requires
 in-file-requires c κs = search needs
 
--- src/lib.rt:115:16
 shared-slice-read-result : tie.Need-shared-slice-read-result
 shared-slice-read-result c = search needs
 
--- src/lib.rt:115:9
 returns : tie.Need-returns
 returns c =
     let a = c .before .before .before .before .args in
     ap (λ (i : ℕ). getD (now (a .file)) i 0) (c .before .in-file .ensures)
     ∙ sym (stream-in (now (a .file)) (a .a .0) (a .blocks) (a .q .0) (search needs))
 
--- src/lib.rt:107:1
 returns-2 : tie.Need-returns-2
 returns-2 c =
     let a = c .before .before .args in sym (stream-past (now (a .file)) (a .a .0) (a .blocks) (a .q .0) (search needs))

@@ -1,65 +1,49 @@
+-- `detect::detect_format` meets its contract: by the magic, each arm being that case of the definition.
+-- Assumes nothing.
 use mathlib.Core.Path.{refl}
 use Rattle.detect.specs.Format.{formatBy, detected-as}
 use borrow.Author.Needs.{needs}
 use Rattle.detect.proofs.detect_format.Statement.{statement}
 use Rattle.detect.proofs.detect_format.Tie as tie
-use Rattle.detect.proofs.detect_format.Reads as reads
-use Rattle.detect.proofs.detect_format.Lts as lts
-use Rattle.detect.proofs.ds2_format.Reads as ds2-format-reads
-use Rattle.detect.proofs.encrypted_format.Reads as encrypted-format-reads
-use Rattle.detect.proofs.magic_of.Reads as magic-of-reads
 
--- src/lib.rt:181:9
 magic-of-requires : tie.Need-magic-of-requires
 magic-of-requires c κs = search needs
 
--- src/lib.rt:183:23
 enum-told : tie.Need-enum-told
 enum-told c = search needs
 
--- src/lib.rt:184:23
 enum-told-2 : tie.Need-enum-told-2
 enum-told-2 c = search needs
 
--- src/lib.rt:184:23
 ds2-format-requires : tie.Need-ds2-format-requires
 ds2-format-requires c κs = search needs
 
--- src/lib.rt:185:29
 enum-told-3 : tie.Need-enum-told-3
 enum-told-3 c = search needs
 
--- src/lib.rt:185:29
 encrypted-format-requires : tie.Need-encrypted-format-requires
 encrypted-format-requires c κs = search needs
 
--- src/lib.rt:186:27
 enum-told-4 : tie.Need-enum-told-4
 enum-told-4 c = search needs
 
--- src/lib.rt:187:25
 enum-told-5 : tie.Need-enum-told-5
 enum-told-5 c = search needs
 
--- src/lib.rt:178:1
 returns : tie.Need-returns
 unfolding formatBy
 returns c = detected-as _ (c .before .before .magic-of .ensures) (c .enum-told .given .1) refl
 
--- src/lib.rt:178:1
 returns-2 : tie.Need-returns-2
 returns-2 c = detected-as _ (c .before .before .before .magic-of .ensures) (c .before .enum-told2 .given .1) (c .ds2-format .ensures)
 
--- src/lib.rt:178:1
 returns-3 : tie.Need-returns-3
 returns-3 c = detected-as _ (c .before .before .before .magic-of .ensures) (c .before .enum-told3 .given .1) (c .encrypted-format .ensures)
 
--- src/lib.rt:178:1
 returns-4 : tie.Need-returns-4
 unfolding formatBy
 returns-4 c = detected-as _ (c .before .before .magic-of .ensures) (c .enum-told4 .given .1) refl
 
--- src/lib.rt:178:1
 returns-5 : tie.Need-returns-5
 unfolding formatBy
 returns-5 c = detected-as _ (c .before .before .magic-of .ensures) (c .enum-told5 .given .1) refl

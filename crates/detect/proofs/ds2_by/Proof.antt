@@ -1,27 +1,22 @@
+-- `detect::ds2_by` meets its contract: by the tests in their order.
+-- Assumes nothing.
 use Rattle.detect.specs.Magics.{ds2By}
 use borrow.Author.Tests.{eq-eqb, ne-eqb}
-use borrow.Author.Needs.{needs}
 use Rattle.detect.proofs.ds2_by.Statement.{statement}
 use Rattle.detect.proofs.ds2_by.Tie as tie
-use Rattle.detect.proofs.ds2_by.Reads as reads
-use Rattle.detect.proofs.ds2_by.Lts as lts
 
--- src/lib.rt:100:9
 returns : tie.Need-returns
 unfolding ds2By
 returns c = simp (eq-eqb _ _ (c .if1 .taken))
 
--- src/lib.rt:103:9
 returns-2 : tie.Need-returns-2
 unfolding ds2By
 returns-2 c = simp (ne-eqb _ _ (c .before .if1 .left), eq-eqb _ _ (c .if2 .taken))
 
--- src/lib.rt:106:9
 returns-3 : tie.Need-returns-3
 unfolding ds2By
 returns-3 c = simp (ne-eqb _ _ (c .before .before .if1 .left), ne-eqb _ _ (c .before .if2 .left), eq-eqb _ _ (c .if3 .taken))
 
--- src/lib.rt:96:1
 returns-4 : tie.Need-returns-4
 unfolding ds2By
 returns-4 c = simp (ne-eqb _ _ (c .before .before .if1 .left), ne-eqb _ _ (c .before .if2 .left), ne-eqb _ _ (c .if3 .left))

@@ -1,3 +1,5 @@
+-- `detect::ds2_format` meets its contract: by the three ways of a DS2 file.
+-- Assumes nothing.
 use native.Mathlib.Omega.{arith}
 use mathlib.Core.Path.{_∙_}
 use Rattle.detect.specs.Start.{start-small}
@@ -5,38 +7,26 @@ use Rattle.detect.specs.Format.{ds2-short, ds2-cut, ds2-typed}
 use borrow.Author.Needs.{needs}
 use Rattle.detect.proofs.ds2_format.Statement.{statement}
 use Rattle.detect.proofs.ds2_format.Tie as tie
-use Rattle.detect.proofs.ds2_format.Reads as reads
-use Rattle.detect.proofs.ds2_format.Lts as lts
-use Rattle.detect.proofs.ds2.detect_ds2_audio_start.Reads as detect-ds2-audio-start-reads
-use Rattle.detect.proofs.ds2.detect_ds2_format_type.Reads as detect-ds2-format-type-reads
-use Rattle.detect.proofs.format_of.Reads as format-of-reads
 
--- src/lib.rt:167:9
 returns : tie.Need-returns
 returns c = ds2-short (c .before .before .args .file .now) (c .if1 .taken)
 
--- src/lib.rt:169:9
 detect-ds2-audio-start-requires : tie.Need-detect-ds2-audio-start-requires
 detect-ds2-audio-start-requires c κs = search needs
 
--- src/lib.rt:171:22
 add-if2 : tie.Need-add-if2
 add-if2 c = omega (arith, start-small (c .before .before .before .args .file .now))
 
--- src/lib.rt:172:9
 returns-2 : tie.Need-returns-2
 returns-2 c =
     ds2-cut (c .before .before .before .before .args .file .now) _ (c .before .detect-ds2-audio-start .ensures) (c .if2 .taken)
 
--- src/lib.rt:174:15
 detect-ds2-format-type-requires : tie.Need-detect-ds2-format-type-requires
 detect-ds2-format-type-requires c κs = search needs
 
--- src/lib.rt:174:5
 format-of-requires : tie.Need-format-of-requires
 format-of-requires c κs = search needs
 
--- src/lib.rt:163:1
 returns-3 : tie.Need-returns-3
 returns-3 c =
     let t = c .before .before in

@@ -1,26 +1,21 @@
+-- `detect::encrypted_format` meets its contract: by the length.
+-- Assumes nothing.
 use borrow.Author.Tests.{lt-ltb, le-ltb}
 use Rattle.detect.specs.Format.{formatBy}
 use borrow.Author.Needs.{needs}
 use Rattle.detect.proofs.encrypted_format.Statement.{statement}
 use Rattle.detect.proofs.encrypted_format.Tie as tie
-use Rattle.detect.proofs.encrypted_format.Reads as reads
-use Rattle.detect.proofs.encrypted_format.Lts as lts
-use Rattle.detect.proofs.format_of.Reads as format-of-reads
 
--- src/lib.rt:146:9
 returns : tie.Need-returns
 unfolding formatBy
 returns c = simp (le-ltb _ _ (c .if1 .taken))
 
--- src/lib.rt:148:15
 shared-slice-read-format-of : tie.Need-shared-slice-read-format-of
 shared-slice-read-format-of c = search needs
 
--- src/lib.rt:148:5
 format-of-requires : tie.Need-format-of-requires
 format-of-requires c κs = search needs
 
--- src/lib.rt:142:1
 returns-2 : tie.Need-returns-2
 unfolding formatBy
 returns-2 c = simp (lt-ltb _ _ (c .before .before .if1 .left), c .format-of .ensures)

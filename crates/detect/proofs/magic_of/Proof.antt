@@ -1,34 +1,25 @@
+-- `detect::magic_of` meets its contract: by the length and the three names in their order.
+-- Assumes nothing.
 use borrow.Author.Tests.{lt-ltb, le-ltb}
 use Rattle.tables.specs.Tests.{told}
 use Rattle.detect.specs.Magics.{magicOf}
 use borrow.Author.Needs.{needs}
 use Rattle.detect.proofs.magic_of.Statement.{statement}
 use Rattle.detect.proofs.magic_of.Tie as tie
-use Rattle.detect.proofs.magic_of.Reads as reads
-use Rattle.detect.proofs.magic_of.Lts as lts
-use Rattle.detect.proofs.ds2_by.Reads as ds2-by-reads
-use Rattle.detect.proofs.dss_by.Reads as dss-by-reads
-use Rattle.detect.proofs.enc_by.Reads as enc-by-reads
-use Rattle.detect.proofs.is_spelt.Reads as is-spelt-reads
 
--- src/lib.rt:126:9
 returns : tie.Need-returns
 unfolding magicOf
 returns c = simp (lt-ltb _ _ (c .if1 .taken))
 
--- src/lib.rt:128:8
 is-spelt-requires : tie.Need-is-spelt-requires
 is-spelt-requires c κs = search needs
 
--- src/lib.rt:129:23
 shared-slice-read-dss-by : tie.Need-shared-slice-read-dss-by
 shared-slice-read-dss-by c = search needs
 
--- src/lib.rt:129:9
 dss-by-requires : tie.Need-dss-by-requires
 dss-by-requires c κs = search needs
 
--- src/lib.rt:129:9
 returns-2 : tie.Need-returns-2
 unfolding magicOf
 returns-2 c =
@@ -36,19 +27,15 @@ returns-2 c =
     let enough = le-ltb _ _ (t .before .before .if1 .left) in
     simp (enough, told (t .before .is-spelt .ensures) (t .if2 .taken), c .dss-by .ensures)
 
--- src/lib.rt:131:8
 is-spelt-requires-2 : tie.Need-is-spelt-requires-2
 is-spelt-requires-2 c κs = search needs
 
--- src/lib.rt:132:23
 shared-slice-read-ds2-by : tie.Need-shared-slice-read-ds2-by
 shared-slice-read-ds2-by c = search needs
 
--- src/lib.rt:132:9
 ds2-by-requires : tie.Need-ds2-by-requires
 ds2-by-requires c κs = search needs
 
--- src/lib.rt:132:9
 returns-3 : tie.Need-returns-3
 unfolding magicOf
 returns-3 c =
@@ -57,19 +44,15 @@ returns-3 c =
     let enough = le-ltb _ _ (e .before .before .if1 .left) in
     simp (enough, told (e .before .is-spelt .ensures) (e .if2 .left), told (t .before .is-spelt2 .ensures) (t .if3 .taken), c .ds2-by .ensures)
 
--- src/lib.rt:134:8
 is-spelt-requires-3 : tie.Need-is-spelt-requires-3
 is-spelt-requires-3 c κs = search needs
 
--- src/lib.rt:135:23
 shared-slice-read-enc-by : tie.Need-shared-slice-read-enc-by
 shared-slice-read-enc-by c = search needs
 
--- src/lib.rt:135:9
 enc-by-requires : tie.Need-enc-by-requires
 enc-by-requires c κs = search needs
 
--- src/lib.rt:135:9
 returns-4 : tie.Need-returns-4
 unfolding magicOf
 returns-4 c =
@@ -79,7 +62,6 @@ returns-4 c =
     let enough = le-ltb _ _ (e .before .before .if1 .left) in
     simp (enough, told (e .before .is-spelt .ensures) (e .if2 .left), told (d .before .is-spelt2 .ensures) (d .if3 .left), told (t .before .is-spelt3 .ensures) (t .if4 .taken), c .enc-by .ensures)
 
--- src/lib.rt:122:1
 returns-5 : tie.Need-returns-5
 unfolding magicOf
 returns-5 c =

@@ -1,11 +1,11 @@
+-- `examples::rising` meets its contract: it ends, and fills its 40 places.
+-- Assumes nothing.
 use Prim.Native.Nat.{_-_, _≤_}
 use mathlib.Core.Path.{_≡_}
 use lib.ListN.{length}
 use borrow.Author.Needs.{needs}
 use Rattle.examples.proofs.rising.Statement.{statement}
 use Rattle.examples.proofs.rising.Tie as tie
-use Rattle.examples.proofs.rising.Reads as reads
-use Rattle.examples.proofs.rising.Lts as lts
 
 abbrev Inv-loop : tie.InvT-loop
 Inv-loop read₀ k₀ read k = (k ≤ 40) × (length read ≡ 40)
@@ -13,31 +13,24 @@ Inv-loop read₀ k₀ read k = (k ≤ 40) × (length read ≡ 40)
 abbrev μ-loop : tie.MeasureT-loop
 μ-loop read₀ k₀ read k = 40 - k
 
--- src/main.rt:36:5
 loop-holds : tie.Need-loop-holds Inv-loop μ-loop
 loop-holds c = search needs
 
--- src/main.rt:37:19
 cast-read : tie.Need-cast-read Inv-loop μ-loop
 cast-read c = search needs
 
--- src/main.rt:37:9
 array-write-read : tie.Need-array-write-read Inv-loop μ-loop
 array-write-read c = search needs
 
--- src/main.rt:38:9
 add-k : tie.Need-add-k Inv-loop μ-loop
 add-k c = search needs
 
--- src/main.rt:36:5
 loop-less : tie.Need-loop-less Inv-loop μ-loop
 loop-less c = search needs
 
--- src/main.rt:36:5
 loop-again : tie.Need-loop-again Inv-loop μ-loop
 loop-again c = search needs
 
--- src/main.rt:31:1
 returns : tie.Need-returns Inv-loop μ-loop
 returns c = search needs
 

@@ -1,7 +1,8 @@
+-- `packets::blended` meets its contract: each place has the blend of the two shifts so far.
+-- Assumes nothing.
 use Prim.Native.Nat.{_+_, _-_, _%_, _≤_, _<_}
 use mathlib.Core.Path.{_≡_, refl, _∙_}
 use mathlib.Core.Bool.{cond}
-use native.Mathlib.Omega.{arith}
 use lib.ListN.{length, getD}
 use lib.Dec.{eqb}
 use Rattle.tables.specs.Lent.{Leaves, leaves-none, leaves-next, leaves-to, leaves-at}
@@ -9,10 +10,6 @@ use Rattle.packets.specs.Gathered.{blend}
 use borrow.Author.Needs.{needs}
 use Rattle.packets.proofs.blended.Statement.{statement}
 use Rattle.packets.proofs.blended.Tie as tie
-use Rattle.packets.proofs.blended.Reads as reads
-use Rattle.packets.proofs.blended.Lts as lts
-use Rattle.packets.proofs.either.Reads as either-reads
-use Rattle.packets.proofs.shifted.Reads as shifted-reads
 
 abbrev Inv-loop : tie.InvT-loop
 Inv-loop src at read blend₀ k₀ blend k =
@@ -21,50 +18,39 @@ Inv-loop src at read blend₀ k₀ blend k =
 abbrev μ-loop : tie.MeasureT-loop
 μ-loop src at read blend₀ k₀ blend k = 48 - k
 
--- src/lib.rt:104:16
 shifted-requires : tie.Need-shifted-requires Inv-loop μ-loop
 shifted-requires c κs = search needs
 
--- src/lib.rt:107:5
 loop-holds : tie.Need-loop-holds Inv-loop μ-loop
 loop-holds c = (search needs, (refl, leaves-none _ 0 _))
 
--- src/lib.rt:108:35
 add-either : tie.Need-add-either Inv-loop μ-loop
 add-either c = search needs
 
--- src/lib.rt:108:30
 array-read-either : tie.Need-array-read-either Inv-loop μ-loop
 array-read-either c = search needs
 
--- src/lib.rt:108:43
 array-read-either-2 : tie.Need-array-read-either-2 Inv-loop μ-loop
 array-read-either-2 c = search needs
 
--- src/lib.rt:108:20
 either-requires : tie.Need-either-requires Inv-loop μ-loop
 either-requires c κs = search needs
 
--- src/lib.rt:108:9
 array-write-blend : tie.Need-array-write-blend Inv-loop μ-loop
 array-write-blend c = search needs
 
--- src/lib.rt:109:9
 add-k : tie.Need-add-k Inv-loop μ-loop
 add-k c = search needs
 
--- src/lib.rt:107:5
 loop-less : tie.Need-loop-less Inv-loop μ-loop
 loop-less c = search needs
 
--- src/lib.rt:107:5
 loop-again : tie.Need-loop-again Inv-loop μ-loop
 loop-again c =
     let l = c .before .before .loop in
     let inside : l .k < 48 = search needs in
     (search needs, (l .inv .1 .0, leaves-next _ (l .k) _ (l .blend) _ inside (c .either .ensures) (l .inv .1 .1)))
 
--- src/lib.rt:100:1
 returns : tie.Need-returns Inv-loop μ-loop
 returns c =
     let l = c .before .loop in

@@ -1,27 +1,22 @@
+-- `packets::carry_after` meets its contract: an unswapped read's byte 40, or the carry as it was.
+-- Assumes nothing.
 use mathlib.Core.Path.{ap}
 use native.Mathlib.Omega.{arith}
-use Rattle.packets.specs.Packet.{readSize}
-use Rattle.packets.specs.Packet.{carryAfter}
+use Rattle.packets.specs.Packet.{readSize, carryAfter}
 use borrow.Author.Needs.{needs}
 use Rattle.packets.proofs.carry_after.Statement.{statement}
 use Rattle.packets.proofs.carry_after.Tie as tie
-use Rattle.packets.proofs.carry_after.Reads as reads
-use Rattle.packets.proofs.carry_after.Lts as lts
 
--- src/lib.rt:149:9
 returns : tie.Need-returns
 unfolding carryAfter
 returns c = simp (c .if1 .taken)
 
--- src/lib.rt:151:16
 add-last : tie.Need-add-last
 add-last c = search needs
 
--- src/lib.rt:152:5
 shared-slice-read-result : tie.Need-shared-slice-read-result
 shared-slice-read-result c = omega (arith, ap readSize (c .before .if1 .left))
 
--- src/lib.rt:144:1
 returns-2 : tie.Need-returns-2
 unfolding carryAfter
 returns-2 c = rw (c .before .if1 .left)

@@ -1,14 +1,13 @@
+-- `packets::plain` meets its contract: the bytes so far are copied, and byte 40 is then 0.
+-- Assumes nothing.
 use Prim.Native.Nat.{_+_, _-_, _≤_, _<_}
 use mathlib.Core.Path.{_≡_, refl}
-use native.Mathlib.Omega.{arith}
 use lib.ListN.{length, getD}
 use Rattle.tables.specs.Lent.{Leaves, leaves-none, leaves-next, leaves-again, leaves-as, leaves-to, leaves-table}
 use Rattle.packets.specs.Gathered.{plain-is}
 use borrow.Author.Needs.{needs}
 use Rattle.packets.proofs.plain.Statement.{statement}
 use Rattle.packets.proofs.plain.Tie as tie
-use Rattle.packets.proofs.plain.Reads as reads
-use Rattle.packets.proofs.plain.Lts as lts
 
 abbrev Inv-loop : tie.InvT-loop
 Inv-loop src at bytes₀ k₀ bytes k = (k ≤ 42) × ((length bytes₀ ≡ 42) × Leaves bytes₀ 0 k (λ j. getD src (at + j) 0) bytes)
@@ -16,42 +15,33 @@ Inv-loop src at bytes₀ k₀ bytes k = (k ≤ 42) × ((length bytes₀ ≡ 42) 
 abbrev μ-loop : tie.MeasureT-loop
 μ-loop src at bytes₀ k₀ bytes k = 42 - k
 
--- src/lib.rt:71:5
 loop-holds : tie.Need-loop-holds Inv-loop μ-loop
 loop-holds c = (search needs, (refl, leaves-none _ 0 _))
 
--- src/lib.rt:72:24
 add-bytes : tie.Need-add-bytes Inv-loop μ-loop
 add-bytes c = search needs
 
--- src/lib.rt:72:20
 shared-slice-read-bytes : tie.Need-shared-slice-read-bytes Inv-loop μ-loop
 shared-slice-read-bytes c = search needs
 
--- src/lib.rt:72:9
 array-write-bytes : tie.Need-array-write-bytes Inv-loop μ-loop
 array-write-bytes c = search needs
 
--- src/lib.rt:73:9
 add-k : tie.Need-add-k Inv-loop μ-loop
 add-k c = search needs
 
--- src/lib.rt:71:5
 loop-less : tie.Need-loop-less Inv-loop μ-loop
 loop-less c = search needs
 
--- src/lib.rt:71:5
 loop-again : tie.Need-loop-again Inv-loop μ-loop
 loop-again c =
     let l = c .before .before .loop in
     let inside : l .k < 42 = search needs in
     (search needs, (l .inv .1 .0, leaves-next _ (l .k) _ (l .bytes) _ inside refl (l .inv .1 .1)))
 
--- src/lib.rt:75:5
 array-write-bytes-2 : tie.Need-array-write-bytes-2 Inv-loop μ-loop
 array-write-bytes-2 c = search needs
 
--- src/lib.rt:65:1
 returns : tie.Need-returns Inv-loop μ-loop
 returns c =
     let l = c .before .loop in

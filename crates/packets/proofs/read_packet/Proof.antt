@@ -1,3 +1,5 @@
+-- `packets::read_packet` meets its contract: inside one block the file's bytes are the stream's, elsewhere the window's are.
+-- Assumes nothing.
 use mathlib.Core.Path.{_∙_}
 use denote.Ref.{now}
 use Rattle.blocks.specs.Places.{streamAt}
@@ -5,44 +7,28 @@ use Rattle.packets.specs.Gathered.{in-block, in-window, full-count, gath
 use borrow.Author.Needs.{needs}
 use Rattle.packets.proofs.read_packet.Statement.{statement}
 use Rattle.packets.proofs.read_packet.Tie as tie
-use Rattle.packets.proofs.read_packet.Reads as reads
-use Rattle.packets.proofs.read_packet.Lts as lts
-use Rattle.blocks.proofs.in_file.Reads as in-file-reads
-use Rattle.packets.proofs.carry_after.Reads as carry-after-reads
-use Rattle.packets.proofs.file_count.Reads as file-count-reads
-use Rattle.packets.proofs.packet_bytes.Reads as packet-bytes-reads
-use Rattle.packets.proofs.read_size.Reads as read-size-reads
-use Rattle.packets.proofs.seam.Reads as seam-reads
 
--- src/lib.rt:206:21
 read-size-requires : tie.Need-read-size-requires
 read-size-requires c κs = search needs
 
--- src/lib.rt:206:16
 add-next : tie.Need-add-next
 add-next c = search needs
 
--- src/lib.rt:209:17
 in-file-requires : tie.Need-in-file-requires
 in-file-requires c κs = search needs
 
--- src/lib.rt:211:17
 packet-bytes-requires : tie.Need-packet-bytes-requires
 packet-bytes-requires c κs = search needs
 
--- src/lib.rt:212:17
 carry-after-requires : tie.Need-carry-after-requires
 carry-after-requires c κs = search needs
 
--- src/lib.rt:213:17
 read-size-requires-2 : tie.Need-read-size-requires-2
 read-size-requires-2 c κs = search needs
 
--- src/lib.rt:216:24
 cast-t22 : tie.Need-cast-t22
 cast-t22 c = search needs
 
--- src/lib.rt:214:13
 returns : tie.Need-returns
 returns c =
     let i = c .before .before .before in
@@ -54,35 +40,27 @@ returns c =
     (c .before .carry-after .ensures)
     (search needs)
 
--- src/lib.rt:222:18
 seam-requires : tie.Need-seam-requires
 seam-requires c κs = search needs
 
--- src/lib.rt:223:30
 slice-aggregate-packet-bytes : tie.Need-slice-aggregate-packet-bytes
 slice-aggregate-packet-bytes c = search needs
 
--- src/lib.rt:223:9
 packet-bytes-requires-2 : tie.Need-packet-bytes-requires-2
 packet-bytes-requires-2 c κs = search needs
 
--- src/lib.rt:224:29
 slice-aggregate-carry-after : tie.Need-slice-aggregate-carry-after
 slice-aggregate-carry-after c = search needs
 
--- src/lib.rt:224:9
 carry-after-requires-2 : tie.Need-carry-after-requires-2
 carry-after-requires-2 c κs = search needs
 
--- src/lib.rt:225:28
 mul-file-count : tie.Need-mul-file-count
 mul-file-count c = search needs
 
--- src/lib.rt:225:9
 file-count-requires : tie.Need-file-count-requires
 file-count-requires c κs = search needs
 
--- src/lib.rt:194:1
 returns-2 : tie.Need-returns-2
 returns-2 c =
     let p = c .before .before .before in

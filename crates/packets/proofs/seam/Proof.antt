@@ -1,3 +1,5 @@
+-- `packets::seam` meets its contract: nothing, one run or two are copied over zeros.
+-- Assumes nothing.
 use mathlib.Core.Path.{refl}
 use denote.Ref.{now}
 use lib.ListN.{getD-replicate}
@@ -5,39 +7,27 @@ use Rattle.packets.specs.Gathered.{window-none, window-one, window-two}
 use borrow.Author.Needs.{needs}
 use Rattle.packets.proofs.seam.Statement.{statement}
 use Rattle.packets.proofs.seam.Tie as tie
-use Rattle.packets.proofs.seam.Reads as reads
-use Rattle.packets.proofs.seam.Lts as lts
-use Rattle.blocks.proofs.in_file.Reads as in-file-reads
-use Rattle.packets.proofs.take_run.Reads as take-run-reads
-use Rattle.tables.proofs.lesser.Reads as lesser-reads
 
--- src/lib.rt:176:9
 returns : tie.Need-returns
 returns c =
     let a = c .before .before .args in
     window-none (now (a .file)) _ (a .a .0) (a .blocks) (a .q .0) refl (λ k h. getD-replicate 42 k 0 0 h) (search needs)
 
--- src/lib.rt:178:9
 in-file-requires : tie.Need-in-file-requires
 in-file-requires c κs = search needs
 
--- src/lib.rt:180:28
 sub-lesser : tie.Need-sub-lesser
 sub-lesser c = search needs
 
--- src/lib.rt:180:9
 lesser-requires : tie.Need-lesser-requires
 lesser-requires c κs = search needs
 
--- src/lib.rt:181:5
 take-run-requires : tie.Need-take-run-requires
 take-run-requires c κs = search needs
 
--- src/lib.rt:182:16
 add-next : tie.Need-add-next
 add-next c = search needs
 
--- src/lib.rt:184:9
 returns-2 : tie.Need-returns-2
 returns-2 c =
     let t = c .before in
@@ -46,23 +36,18 @@ returns-2 c =
     window-one (now (a .file)) _ (a .a .0) (a .blocks) (a .q .0) refl (λ k h. getD-replicate 42 k 0 0 h) _ _ _ (search needs) (i .in-file .ensures) (search needs)
     (t .take-run .ensures) (search needs)
 
--- src/lib.rt:186:48
 mul-t16 : tie.Need-mul-t16
 mul-t16 c = search needs
 
--- src/lib.rt:186:9
 in-file-requires-2 : tie.Need-in-file-requires-2
 in-file-requires-2 c κs = search needs
 
--- src/lib.rt:188:13
 sub-m : tie.Need-sub-m
 sub-m c = search needs
 
--- src/lib.rt:189:5
 take-run-requires-2 : tie.Need-take-run-requires-2
 take-run-requires-2 c κs = search needs
 
--- src/lib.rt:168:1
 returns-3 : tie.Need-returns-3
 returns-3 c =
     let t = c .before .before .before .before in

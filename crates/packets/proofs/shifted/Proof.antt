@@ -1,13 +1,12 @@
+-- `packets::shifted` meets its contract: the bytes so far stand three places on.
+-- Assumes nothing.
 use Prim.Native.Nat.{_+_, _-_, _≤_, _<_}
 use mathlib.Core.Path.{_≡_, refl, _∙_}
-use native.Mathlib.Omega.{arith}
 use lib.ListN.{length, getD}
 use Rattle.tables.specs.Lent.{Leaves, leaves-none, leaves-more, leaves-to}
 use borrow.Author.Needs.{needs}
 use Rattle.packets.proofs.shifted.Statement.{statement}
 use Rattle.packets.proofs.shifted.Tie as tie
-use Rattle.packets.proofs.shifted.Reads as reads
-use Rattle.packets.proofs.shifted.Lts as lts
 
 abbrev Inv-loop : tie.InvT-loop
 Inv-loop src at read₀ k₀ read k = (k ≤ 40) × ((length read₀ ≡ 52) × Leaves read₀ 3 k (λ j. getD src (at + j) 0) read)
@@ -15,42 +14,33 @@ Inv-loop src at read₀ k₀ read k = (k ≤ 40) × ((length read₀ ≡ 52) × 
 abbrev μ-loop : tie.MeasureT-loop
 μ-loop src at read₀ k₀ read k = 40 - k
 
--- src/lib.rt:86:5
 loop-holds : tie.Need-loop-holds Inv-loop μ-loop
 loop-holds c = (search needs, (refl, leaves-none _ 3 _))
 
--- src/lib.rt:87:27
 add-read : tie.Need-add-read Inv-loop μ-loop
 add-read c = search needs
 
--- src/lib.rt:87:23
 shared-slice-read-read : tie.Need-shared-slice-read-read Inv-loop μ-loop
 shared-slice-read-read c = search needs
 
--- src/lib.rt:87:14
 add-read-2 : tie.Need-add-read-2 Inv-loop μ-loop
 add-read-2 c = search needs
 
--- src/lib.rt:87:9
 array-write-read : tie.Need-array-write-read Inv-loop μ-loop
 array-write-read c = search needs
 
--- src/lib.rt:88:9
 add-k : tie.Need-add-k Inv-loop μ-loop
 add-k c = search needs
 
--- src/lib.rt:86:5
 loop-less : tie.Need-loop-less Inv-loop μ-loop
 loop-less c = search needs
 
--- src/lib.rt:86:5
 loop-again : tie.Need-loop-again Inv-loop μ-loop
 loop-again c =
     let l = c .before .before .loop in
     let inside : 3 + l .k < 52 = search needs in
     (search needs, (l .inv .1 .0, leaves-more _ 3 (l .k) _ (l .read) _ inside refl (l .inv .1 .1)))
 
--- src/lib.rt:80:1
 returns : tie.Need-returns Inv-loop μ-loop
 returns c =
     let l = c .before .loop in

@@ -1,13 +1,12 @@
-use Prim.Native.Nat.{_+_, _-_, _≤_, _<_}
-use mathlib.Core.Path.{_≡_, refl}
-use native.Mathlib.Omega.{arith}
-use lib.ListN.{length, getD}
+-- `packets::take_run` meets its contract: the bytes so far are copied, and no other place changes.
+-- Assumes nothing.
+use Prim.Native.Nat.{_+_, _-_, _≤_}
+use mathlib.Core.Path.{refl}
+use lib.ListN.{getD}
 use Rattle.tables.specs.Lent.{Leaves, leaves-none, leaves-more, leaves-to}
 use borrow.Author.Needs.{needs}
 use Rattle.packets.proofs.take_run.Statement.{statement}
 use Rattle.packets.proofs.take_run.Tie as tie
-use Rattle.packets.proofs.take_run.Reads as reads
-use Rattle.packets.proofs.take_run.Lts as lts
 
 abbrev Inv-loop : tie.InvT-loop
 Inv-loop window₀ to file at n k₀ window k = (k ≤ n) × Leaves window₀ to k (λ j. getD file (at + j) 0) window
@@ -15,41 +14,32 @@ Inv-loop window₀ to file at n k₀ window k = (k ≤ n) × Leaves window₀ to
 abbrev μ-loop : tie.MeasureT-loop
 μ-loop window₀ to file at n k₀ window k = n - k
 
--- src/lib.rt:161:5
 loop-holds : tie.Need-loop-holds Inv-loop μ-loop
 loop-holds c = (search needs, leaves-none _ _ _)
 
--- src/lib.rt:162:31
 add-window : tie.Need-add-window Inv-loop μ-loop
 add-window c = search needs
 
--- src/lib.rt:162:26
 shared-slice-read-window : tie.Need-shared-slice-read-window Inv-loop μ-loop
 shared-slice-read-window c = search needs
 
--- src/lib.rt:162:16
 add-window-2 : tie.Need-add-window-2 Inv-loop μ-loop
 add-window-2 c = search needs
 
--- src/lib.rt:162:9
 element-write-window : tie.Need-element-write-window Inv-loop μ-loop
 element-write-window c = search needs
 
--- src/lib.rt:163:9
 add-k : tie.Need-add-k Inv-loop μ-loop
 add-k c = search needs
 
--- src/lib.rt:161:5
 loop-less : tie.Need-loop-less Inv-loop μ-loop
 loop-less c = search needs
 
--- src/lib.rt:161:5
 loop-again : tie.Need-loop-again Inv-loop μ-loop
 loop-again c =
     let l = c .before .before .loop in
     (search needs, leaves-more _ _ (l .k) _ (l .window) _ (search needs) refl (l .inv .1))
 
--- src/lib.rt:156:1
 returns : tie.Need-returns Inv-loop μ-loop
 returns c =
     let l = c .before .loop in

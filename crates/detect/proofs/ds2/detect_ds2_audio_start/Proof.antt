@@ -1,3 +1,5 @@
+-- `detect::ds2::detect_ds2_audio_start` meets its contract: by the first byte, which past the end counts as 0.
+-- Assumes nothing.
 use mathlib.Core.Path.{_∙_}
 use Rattle.tables.specs.Tests.{told}
 use borrow.Author.Tests.{eq-eqb, ne-eqb}
@@ -5,27 +7,19 @@ use Rattle.detect.specs.Start.{audioStart}
 use borrow.Author.Needs.{needs}
 use Rattle.detect.proofs.ds2.detect_ds2_audio_start.Statement.{statement}
 use Rattle.detect.proofs.ds2.detect_ds2_audio_start.Tie as tie
-use Rattle.detect.proofs.ds2.detect_ds2_audio_start.Reads as reads
-use Rattle.detect.proofs.ds2.detect_ds2_audio_start.Lts as lts
-use Rattle.detect.proofs.byte_or_zero.Reads as byte-or-zero-reads
-use Rattle.detect.proofs.ds2.scan.Reads as scan-reads
 
--- src/ds2.rt:106:8
 byte-or-zero-requires : tie.Need-byte-or-zero-requires
 byte-or-zero-requires c κs = search needs
 
--- src/ds2.rt:107:26
 scan-requires : tie.Need-scan-requires
 scan-requires c κs = search needs
 
--- src/ds2.rt:107:9
 returns : tie.Need-returns
 unfolding audioStart
 returns c =
     let t = c .before in
     simp (eq-eqb _ _ (told (t .before .byte-or-zero .ensures) (t .if1 .taken)), c .scan .ensures)
 
--- src/ds2.rt:103:1
 returns-2 : tie.Need-returns-2
 unfolding audioStart
 returns-2 c =

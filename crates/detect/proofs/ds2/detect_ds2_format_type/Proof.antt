@@ -1,3 +1,5 @@
+-- `detect::ds2::detect_ds2_format_type` meets its contract: the type of the file is that of the blocks still left.
+-- Assumes nothing.
 use native.Mathlib.Nat.{sub-zero}
 use Prim.Native.Nat.{suc, _+_, _-_, _≤_}
 use mathlib.Core.Path.{_≡_, sym, _∙_}
@@ -6,11 +8,6 @@ use Rattle.detect.specs.Kinds.{formatType, firstType, type-none, type-he
 use borrow.Author.Needs.{needs}
 use Rattle.detect.proofs.ds2.detect_ds2_format_type.Statement.{statement}
 use Rattle.detect.proofs.ds2.detect_ds2_format_type.Tie as tie
-use Rattle.detect.proofs.ds2.detect_ds2_format_type.Reads as reads
-use Rattle.detect.proofs.ds2.detect_ds2_format_type.Lts as lts
-use Rattle.blocks.proofs.count_byte.Reads as count-byte-reads
-use Rattle.blocks.proofs.header_byte.Reads as header-byte-reads
-use Rattle.blocks.proofs.whole_blocks.Reads as whole-blocks-reads
 
 abbrev Inv-loop : tie.InvT-loop
 Inv-loop file header-size blocks block₀ block = (block ≤ blocks) × (formatType file (header-size .0) ≡ firstType file (header-size .0) (blocks - block) block)
@@ -18,46 +15,37 @@ Inv-loop file header-size blocks block₀ block = (block ≤ blocks) × (formatT
 abbrev μ-loop : tie.MeasureT-loop
 μ-loop file header-size blocks block₀ block = blocks - block
 
--- src/ds2.rt:116:9
 whole-blocks-requires : tie.Need-whole-blocks-requires Inv-loop μ-loop
 whole-blocks-requires c κs = search needs
 
--- src/ds2.rt:118:5
 loop-holds : tie.Need-loop-holds Inv-loop μ-loop
 unfolding formatType
 loop-holds c = (search needs, rw (sub-zero, c .whole-blocks .ensures))
 
--- src/ds2.rt:119:16
 count-byte-requires : tie.Need-count-byte-requires Inv-loop μ-loop
 count-byte-requires c κs = search needs
 
--- src/ds2.rt:120:13
 header-byte-requires : tie.Need-header-byte-requires Inv-loop μ-loop
 header-byte-requires c κs = search needs
 
--- src/ds2.rt:120:13
 returns : tie.Need-returns Inv-loop μ-loop
 returns c =
     let l = c .before .before .before .before in
     let more : l .before .whole-blocks .result - l .loop .block ≡ suc (l .before .whole-blocks .result - (l .loop .block + 1)) = omega arith in
     c .header-byte .ensures ∙ sym (l .loop .inv .1 ∙ type-here _ _ _ _ _ more (omega arith))
 
--- src/ds2.rt:122:9
 add-block : tie.Need-add-block Inv-loop μ-loop
 add-block c = search needs
 
--- src/ds2.rt:118:5
 loop-less : tie.Need-loop-less Inv-loop μ-loop
 loop-less c = search needs
 
--- src/ds2.rt:118:5
 loop-again : tie.Need-loop-again Inv-loop μ-loop
 loop-again c =
     let l = c .before .before .before in
     let more : l .before .whole-blocks .result - l .loop .block ≡ suc (l .before .whole-blocks .result - (l .loop .block + 1)) = omega arith in
     (omega arith, l .loop .inv .1 ∙ type-later _ _ _ _ _ more (omega arith))
 
--- src/ds2.rt:113:1
 returns-2 : tie.Need-returns-2 Inv-loop μ-loop
 returns-2 c =
     let l = c .before in

@@ -1,3 +1,5 @@
+-- `detect::ds2::is_ds2_audio_block_header` meets its contract: one test that fails decides, and the last where the others hold.
+-- Assumes nothing.
 use mathlib.Core.Bool.{and-false}
 use Rattle.tables.specs.Tests.{both, last-of-all}
 use borrow.Author.Tests.{eq-eqb, ne-eqb, lt-ltb, le-ltb, lt-leb, le-leb}
@@ -5,60 +7,45 @@ use Rattle.detect.specs.Header.{goodHeader}
 use borrow.Author.Needs.{needs}
 use Rattle.detect.proofs.ds2.is_ds2_audio_block_header.Statement.{statement}
 use Rattle.detect.proofs.ds2.is_ds2_audio_block_header.Tie as tie
-use Rattle.detect.proofs.ds2.is_ds2_audio_block_header.Reads as reads
-use Rattle.detect.proofs.ds2.is_ds2_audio_block_header.Lts as lts
-use Rattle.detect.proofs.ds2.is_good_type.Reads as is-good-type-reads
 
--- src/ds2.rt:35:9
 returns : tie.Need-returns
 unfolding goodHeader
 returns c = simp (lt-leb _ _ (c .if1 .taken))
 
--- src/ds2.rt:37:8
 shared-slice-read-if2 : tie.Need-shared-slice-read-if2
 shared-slice-read-if2 c = search needs
 
--- src/ds2.rt:38:9
 returns-2 : tie.Need-returns-2
 unfolding goodHeader
 returns-2 c = simp (ne-eqb _ _ (c .if2 .taken), and-false)
 
--- src/ds2.rt:40:8
 shared-slice-read-if3 : tie.Need-shared-slice-read-if3
 shared-slice-read-if3 c = search needs
 
--- src/ds2.rt:41:9
 returns-3 : tie.Need-returns-3
 unfolding goodHeader
 returns-3 c = simp (ne-eqb _ _ (c .if3 .taken), and-false)
 
--- src/ds2.rt:43:8
 shared-slice-read-if4 : tie.Need-shared-slice-read-if4
 shared-slice-read-if4 c = search needs
 
--- src/ds2.rt:44:9
 returns-4 : tie.Need-returns-4
 unfolding goodHeader
 returns-4 c = simp (ne-eqb _ _ (c .if4 .taken), and-false)
 
--- src/ds2.rt:46:8
 shared-slice-read-if5 : tie.Need-shared-slice-read-if5
 shared-slice-read-if5 c = search needs
 
--- src/ds2.rt:47:9
 returns-5 : tie.Need-returns-5
 unfolding goodHeader
 returns-5 c = simp (le-ltb _ _ (c .if5 .taken), and-false)
 
--- src/ds2.rt:49:18
 shared-slice-read-is-good-type : tie.Need-shared-slice-read-is-good-type
 shared-slice-read-is-good-type c = search needs
 
--- src/ds2.rt:49:5
 is-good-type-requires : tie.Need-is-good-type-requires
 is-good-type-requires c κs = search needs
 
--- src/ds2.rt:31:1
 returns-6 : tie.Need-returns-6
 unfolding goodHeader
 returns-6 c =

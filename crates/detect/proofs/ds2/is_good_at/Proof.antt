@@ -1,3 +1,5 @@
+-- `detect::ds2::is_good_at` meets its contract: past the file's end there is no header.
+-- Assumes nothing.
 use Rattle.tables.specs.Parts.{rest-is}
 use Prim.Native.Nat.{_+_, _<_}
 use lib.ListN.{length}
@@ -7,34 +9,25 @@ use Rattle.detect.specs.Header.{none-past}
 use borrow.Author.Needs.{needs}
 use Rattle.detect.proofs.ds2.is_good_at.Statement.{statement}
 use Rattle.detect.proofs.ds2.is_good_at.Tie as tie
-use Rattle.detect.proofs.ds2.is_good_at.Reads as reads
-use Rattle.detect.proofs.ds2.is_good_at.Lts as lts
-use Rattle.detect.proofs.ds2.is_ds2_audio_block_header.Reads as is-ds2-audio-block-header-reads
 
--- src/ds2.rt:57:9
 returns : tie.Need-returns
 returns c =
     let a = c .before .before .args in
     let past : length (a .file .now) < a .at + 6 = omega arith in
     sym (none-past (a .file .now) (a .at) past)
 
--- src/ds2.rt:59:31
 sub-is-ds2-audio-block-header : tie.Need-sub-is-ds2-audio-block-header
 sub-is-ds2-audio-block-header c = search needs
 
--- src/ds2.rt:59:31
 part-is-ds2-audio-block-header-start : tie.Need-part-is-ds2-audio-block-header-start
 part-is-ds2-audio-block-header-start c = search needs
 
--- src/ds2.rt:59:31
 part-is-ds2-audio-block-header-end : tie.Need-part-is-ds2-audio-block-header-end
 part-is-ds2-audio-block-header-end c = search needs
 
--- src/ds2.rt:59:5
 is-ds2-audio-block-header-requires : tie.Need-is-ds2-audio-block-header-requires
 is-ds2-audio-block-header-requires c κs = search needs
 
--- src/ds2.rt:53:1
 returns-2 : tie.Need-returns-2
 returns-2 c = rw (← rest-is _ (c .before .before .before .before .args .at)) (c .is-ds2-audio-block-header .ensures)
 

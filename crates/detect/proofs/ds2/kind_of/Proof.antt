@@ -1,22 +1,18 @@
+-- `detect::ds2::kind_of` meets its contract: by the tests in their order.
+-- Assumes nothing.
 use Rattle.detect.specs.Kinds.{kindOf}
 use borrow.Author.Tests.{eq-eqb, le-ltb, lt-ltb, ne-eqb}
-use borrow.Author.Needs.{needs}
 use Rattle.detect.proofs.ds2.kind_of.Statement.{statement}
 use Rattle.detect.proofs.ds2.kind_of.Tie as tie
-use Rattle.detect.proofs.ds2.kind_of.Reads as reads
-use Rattle.detect.proofs.ds2.kind_of.Lts as lts
 
--- src/ds2.rt:132:9
 returns : tie.Need-returns
 unfolding kindOf
 returns c = simp (lt-ltb _ _ (c .if1 .taken))
 
--- src/ds2.rt:135:9
 returns-2 : tie.Need-returns-2
 unfolding kindOf
 returns-2 c = simp (le-ltb _ _ (c .before .if1 .left), eq-eqb _ _ (c .if2 .taken))
 
--- src/ds2.rt:128:1
 returns-3 : tie.Need-returns-3
 unfolding kindOf
 returns-3 c = simp (le-ltb _ _ (c .before .if1 .left), ne-eqb _ _ (c .if2 .left))

@@ -1,3 +1,5 @@
+-- `detect::ds2::scan` meets its contract: what is left to scan gives what the whole scan gives, and the inner count is the candidate's score so far.
+-- Assumes nothing.
 use Prim.Native.Nat.{ℕ, suc, _+_, _-_, _/_, _%_, _≤_, _<_, min}
 use mathlib.Core.Path.{_≡_, sym, _∙_}
 use mathlib.Core.Logic.{⊎-elim}
@@ -9,10 +11,6 @@ use Rattle.tables.specs.Tests.{told}
 use borrow.Author.Needs.{needs}
 use Rattle.detect.proofs.ds2.scan.Statement.{statement}
 use Rattle.detect.proofs.ds2.scan.Tie as tie
-use Rattle.detect.proofs.ds2.scan.Reads as reads
-use Rattle.detect.proofs.ds2.scan.Lts as lts
-use Rattle.detect.proofs.ds2.is_good_at.Reads as is-good-at-reads
-use Rattle.detect.proofs.ds2.scan_end.Reads as scan-end-reads
 
 abbrev Inv-loop : tie.InvT-loop
 Inv-loop file end offset best most valid₀ valid = (valid < 4) × Ran file offset valid
@@ -43,42 +41,33 @@ counted c =
     (told (w .1 .ensures) (not-true _ (w .2 .taken))) (l .loop .inv .1))
     (c .loop-test .came)
 
--- src/ds2.rt:76:9
 scan-end-requires : tie.Need-scan-end-requires Inv-loop μ-loop Inv-scan μ-scan
 scan-end-requires c κs = search needs
 
--- src/ds2.rt:80:5
 scan-holds : tie.Need-scan-holds Inv-loop μ-loop Inv-scan μ-scan
 unfolding scanned
 scan-holds c =
     let e : (c .scan-end .result + 512 - 512) / 512 ≡ min 0x10000 (length (c .before .before .args .file .now) - 6) / 512 = omega arith in
     (search needs, (search needs, (search needs, (search needs, rw e))))
 
--- src/ds2.rt:85:9
 loop-holds : tie.Need-loop-holds Inv-loop μ-loop Inv-scan μ-scan
 loop-holds c = (search needs, ran-none (c .before .before .before .before .args .file .now) (c .before .scan .offset))
 
--- src/ds2.rt:86:43
 mul-is-good-at : tie.Need-mul-is-good-at Inv-loop μ-loop Inv-scan μ-scan
 mul-is-good-at c = search needs
 
--- src/ds2.rt:86:34
 add-is-good-at : tie.Need-add-is-good-at Inv-loop μ-loop Inv-scan μ-scan
 add-is-good-at c = search needs
 
--- src/ds2.rt:86:17
 is-good-at-requires : tie.Need-is-good-at-requires Inv-loop μ-loop Inv-scan μ-scan
 is-good-at-requires c κs = search needs
 
--- src/ds2.rt:89:13
 add-valid : tie.Need-add-valid Inv-loop μ-loop Inv-scan μ-scan
 add-valid c = search needs
 
--- src/ds2.rt:85:9
 loop-less : tie.Need-loop-less Inv-loop μ-loop Inv-scan μ-scan
 loop-less c = search needs
 
--- src/ds2.rt:85:9
 loop-again : tie.Need-loop-again Inv-loop μ-loop Inv-scan μ-scan
 loop-again c =
     let l = c .before .before .before .before in
@@ -88,15 +77,12 @@ loop-again c =
           (told (g .is-good-at .ensures) (not-false _ (c .before .if2 .left))) (l .loop .inv .1),
     )
 
--- src/ds2.rt:98:9
 add-offset : tie.Need-add-offset Inv-loop μ-loop Inv-scan μ-scan
 add-offset c = search needs
 
--- src/ds2.rt:80:5
 scan-less : tie.Need-scan-less Inv-loop μ-loop Inv-scan μ-scan
 scan-less c = search needs
 
--- src/ds2.rt:80:5
 scan-again : tie.Need-scan-again Inv-loop μ-loop Inv-scan μ-scan
 scan-again c =
     let l = c .before .before in
@@ -119,13 +105,11 @@ scan-again c =
       ),
     )
 
--- src/ds2.rt:73:1
 returns : tie.Need-returns Inv-loop μ-loop Inv-scan μ-scan
 returns c =
     let v = c .before .scan in
     sym (v .inv .1 .1 .1 .1 ∙ scan-none _ _ _ _ _ (omega arith))
 
--- src/ds2.rt:73:1
 returns-2 : tie.Need-returns-2 Inv-loop μ-loop Inv-scan μ-scan
 returns-2 c =
     let l = c .before .before .before .before in

@@ -1,35 +1,29 @@
+-- `detect::whole::admit_at` meets its contract: by the ways of an admission.
+-- Assumes nothing.
 use borrow.Author.Tests.{not-true, not-false}
 use Rattle.detect.specs.Admissions.{refused-1, refused-2, refused-3, admitted}
 use borrow.Author.Needs.{needs}
 use Rattle.detect.proofs.whole.admit_at.Statement.{statement}
 use Rattle.detect.proofs.whole.admit_at.Tie as tie
-use Rattle.detect.proofs.whole.admit_at.Reads as reads
-use Rattle.detect.proofs.whole.admit_at.Lts as lts
-use Rattle.blocks.proofs.whole_blocks.Reads as whole-blocks-reads
 
--- src/whole.rt:26:9
 returns : tie.Need-returns
 returns c =
     let a = c .before .before .args in
     refused-1 (a .file .now) (a .takes) (a .start .0) (not-true _ (c .if1 .taken))
 
--- src/whole.rt:29:9
 returns-2 : tie.Need-returns-2
 returns-2 c =
     let a = c .before .before .before .args in
     refused-2 (a .file .now) (a .takes) (a .start .0) (not-false _ (c .before .if1 .left)) (c .if2 .taken)
 
--- src/whole.rt:32:9
 returns-3 : tie.Need-returns-3
 returns-3 c =
     let a = c .before .before .before .before .args in
     refused-3 (a .file .now) (a .takes) (a .start .0) (not-false _ (c .before .before .if1 .left)) (c .before .if2 .left) (c .if3 .taken)
 
--- src/whole.rt:34:9
 whole-blocks-requires : tie.Need-whole-blocks-requires
 whole-blocks-requires c κs = search needs
 
--- src/whole.rt:21:1
 returns-4 : tie.Need-returns-4
 returns-4 c =
     let t = c .before in

@@ -1,3 +1,5 @@
+-- `detect::whole::payload_place` meets its contract: by the ways of a request.
+-- Assumes nothing.
 use Rattle.detect.specs.Payload.{place-refused, place-absent, place-at, block-there}
 use mathlib.Core.Path.{_≡_, ap, _∙_}
 use mathlib.Core.Bool.{true}
@@ -9,56 +11,44 @@ use Rattle.detect.specs.Admissions.{admission, admissionSays}
 use borrow.Author.Needs.{needs}
 use Rattle.detect.proofs.whole.payload_place.Statement.{statement}
 use Rattle.detect.proofs.whole.payload_place.Tie as tie
-use Rattle.detect.proofs.whole.payload_place.Reads as reads
-use Rattle.detect.proofs.whole.payload_place.Lts as lts
-use Rattle.blocks.proofs.in_file.Reads as in-file-reads
-use Rattle.detect.proofs.whole.admit.Reads as admit-reads
 
 -- the recording that was taken
 taken : (c : tie.After-known-told2) → answers (c .before .admission2 .given .0 .0) ≡ admission (now (c .before .before .before .before .before .args .file)) true true
 taken c = told (ap admissionSays (c .before .admission2 .given .1)) (c .before .before .before .admit .ensures)
 
--- src/whole.rt:63:9
 admit-requires : tie.Need-admit-requires
 admit-requires c κs = search needs
 
--- src/whole.rt:65:28
 enum-known-admission : tie.Need-enum-known-admission
 enum-known-admission c = search needs
 
--- src/whole.rt:66:29
 enum-known-admission-2 : tie.Need-enum-known-admission-2
 enum-known-admission-2 c = search needs
 
--- src/whole.rt:70:17
 returns : tie.Need-returns
 returns c =
     let k = c .before .before in
     let a = k .before .before .before .before .before .args in
     place-absent (now (a .file)) (a .block) _ (taken k) (c .if1 .taken)
 
--- src/whole.rt:72:66
 mul-t12 : tie.Need-mul-t12
 mul-t12 c =
     let k = c .before .before in
     let a = k .before .before .before .before .before .args in
     omega (arith, block-there (now (a .file)) (a .block) _ (taken k) (c .if1 .left))
 
--- src/whole.rt:72:31
 in-file-requires : tie.Need-in-file-requires
 in-file-requires c κs =
     let k = c .before .before in
     let a = k .before .before .before .before .before .args in
     omega (arith, block-there (now (a .file)) (a .block) _ (taken k) (c .if1 .left))
 
--- src/whole.rt:60:1
 returns-2 : tie.Need-returns-2
 returns-2 c =
     let t = c .before .before .before in
     let a = t .before .before .args in
     place-refused (now (a .file)) (a .block) (told (ap admissionSays (c .before .admission .given .1)) (t .admit .ensures))
 
--- src/whole.rt:60:1
 returns-3 : tie.Need-returns-3
 returns-3 c =
     let k = c .before .before .before in
