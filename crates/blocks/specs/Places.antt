@@ -1,10 +1,8 @@
 -- Blocks and places: after the audio start a come blocks of 512 bytes, 6 of header and 506 of payload. A place in the file and a
 -- place in the payload stream are counted apart, and `fileOf` is the one way from the second to the first. Assumes nothing.
-use Prim.Native.Nat.{ℕ, _+_, _*_, _-_, _/_, _%_, _≤_, _<_}
-use mathlib.Core.Path.{_≡_}
+use Prim.Native.Nat.{ℕ, _+_, _*_, _-_, _/_, _%_, _≤_}
 use mathlib.Core.List.{List}
 use mathlib.Core.Bool.{cond}
-use borrow.Author.Tests.{lt-ltb, le-ltb}
 use lib.ListN.{getD, length, take, drop}
 use lib.Dec.{ltb}
 
@@ -31,13 +29,3 @@ streamAt f a n q = cond (ltb q (506 * n)) (getD f (fileOf a q) 0) 0
 -- the payload of block b: those 506 bytes of the file
 abbrev pub payloadOf : List ℕ → ℕ → ℕ → List ℕ
 payloadOf f a b = take 506 (drop (blockAt a b + 6) f)
-
--- ---- laws
-
-pub stream-in : (f : List ℕ) (a n q : ℕ) → q < 506 * n → streamAt f a n q ≡ getD f (fileOf a q) 0
-unfolding streamAt
-stream-in f a n q h = simp (lt-ltb q (506 * n) h)
-
-pub stream-past : (f : List ℕ) (a n q : ℕ) → 506 * n ≤ q → streamAt f a n q ≡ 0
-unfolding streamAt
-stream-past f a n q h = simp (le-ltb q (506 * n) h)

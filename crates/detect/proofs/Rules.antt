@@ -6,11 +6,13 @@ use mathlib.Core.List.{List}
 use native.Mathlib.Nat.{not-suc-le-zero}
 use native.Mathlib.Omega.{arith}
 use lib.ListN.{length}
-use Rattle.tables.specs.Cases.{by-order}
+use Rattle.tables.proofs.Cases.{by-order}
 use Rattle.blocks.specs.Places.{wholeBlocks}
 use Rattle.blocks.specs.Headers.{countOf, typeOf}
-use Rattle.detect.specs.Start.{score, scan, scanned, scan-none, scan-four, scan-better, scan-worse}
-use Rattle.detect.specs.Kinds.{firstType, formatType, type-none, type-here, type-later}
+use Rattle.detect.specs.Start.{score, scan, scanned}
+use Rattle.detect.proofs.Start.{scan-none, scan-four, scan-better, scan-worse}
+use Rattle.detect.specs.Kinds.{firstType, formatType}
+use Rattle.detect.proofs.Types.{type-none, type-here, type-later}
 
 -- how many candidates there are, and candidate number j
 abbrev pub candidates : List ℕ → ℕ

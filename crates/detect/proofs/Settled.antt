@@ -6,8 +6,9 @@ use mathlib.Core.List.{List}
 use denote.Ref.{now}
 use Rattle.blocks.specs.declared.FilePlace.{FilePlace}
 use Rattle.tables.specs.Settled.{Settled, SettledAs}
-use Rattle.refusals.specs.Said.{Said, answers, refuses, only-one}
-use Rattle.refusals.specs.Back.{caseOf, case-back}
+use Rattle.refusals.specs.Said.{Said, answers, refuses}
+use Rattle.refusals.proofs.Said.{only-one}
+use Rattle.refusals.proofs.Back.{caseOf, case-back}
 use Rattle.detect.specs.declared.PayloadAnswer.{PayloadAnswer}
 use Rattle.detect.specs.declared.PayloadAnswer.the-variants.{At, Refused}
 use Rattle.detect.specs.Payload.{payloadSays}

@@ -1,16 +1,12 @@
 -- What every whole call does first: magic, limit, audio start. Refusals 1, 2 and 3 with the numbers beside them, or the recording.
 -- Assumes nothing.
-use Prim.Native.Nat.{ℕ, _*_, _≤_, _<_}
-use mathlib.Core.Path.{_≡_, refl, ap, _∙_, subst}
+use Prim.Native.Nat.{ℕ, _*_}
 use mathlib.Core.List.{List}
-use mathlib.Core.Bool.{Bool, true, false}
-use native.Mathlib.Omega.{arith}
-use borrow.Author.Tests.{leb-true, le-leb, lt-leb}
+use mathlib.Core.Bool.{Bool}
 use lib.ListN.{getD, length}
 use lib.Dec.{leb}
-use Rattle.tables.specs.Tests.{told}
-use Rattle.blocks.specs.Places.{wholeBlocks, Whole}
-use Rattle.refusals.specs.Said.{Said, answers, refuses, refusal, demand, passed, not-both}
+use Rattle.blocks.specs.Places.{wholeBlocks}
+use Rattle.refusals.specs.Said.{Said, answers, refuses, refusal, demand}
 use Rattle.detect.specs.declared.Magic.{Magic}
 use Rattle.detect.specs.declared.Magic.the-variants.{Dss, Ds2, Encrypted, Grundig, Other}
 use Rattle.detect.specs.declared.Recording.{Recording}
@@ -43,55 +39,3 @@ admission f dss ds2 = admissionBy (magicOf f) f dss ds2
 abbrev pub admissionSays : Admission → Said Recording
 admissionSays (Admitted rec) = answers rec
 admissionSays (Refused why) = refusal why
-
--- ---- laws
-
--- the ways of an admission
-module _ (f : List ℕ) (takes : Bool) (a : ℕ) where
-  pub refused-1 : takes ≡ false → refuses 1 0 ≡ demand takes 1 0 (admissionAt f a)
-  refused-1 h = simp h
-
-  pub refused-2 : takes ≡ true → 268435456 < length f → refuses 2 268435456 ≡ demand takes 1 0 (admissionAt f a)
-  unfolding admissionAt
-  refused-2 h l = simp (h, lt-leb _ _ l)
-
-  pub refused-3 : takes ≡ true → length f ≤ 268435456 → length f < a → refuses 3 a ≡ demand takes 1 0 (admissionAt f a)
-  unfolding admissionAt
-  refused-3 h l s = simp (h, le-leb _ _ l, lt-leb _ _ s)
-
-  pub admitted : takes ≡ true → length f ≤ 268435456 → a ≤ length f → (n : ℕ) → n ≡ wholeBlocks (length f) a
-      → answers (record { start = record { 0 = a }; blocks = n }) ≡ demand takes 1 0 (admissionAt f a)
-  unfolding admissionAt
-  admitted h l s n e = simp (h, le-leb _ _ l, le-leb _ _ s, e)
-
-pub admission-as : {said : Said Recording} (f : List ℕ) (dss ds2 : Bool) {m n : Magic} → m ≡ magicOf f → m ≡ n
-    → said ≡ admissionBy n f dss ds2 → said ≡ admission f dss ds2
-unfolding admission
-admission-as f dss ds2 p q e = e ∙ ap (λ (m : Magic). admissionBy m f dss ds2) (told q p)
-
--- what holds of a recording that was taken
-pub record Sound (f : List ℕ) (rec : Recording) : Type 0 where
-  pub whole : Whole f (rec .start .0) (rec .blocks)
-  pub all : rec .blocks ≡ wholeBlocks (length f) (rec .start .0)
-  pub within : length f ≤ 268435456
-
-sound-at : (f : List ℕ) (a : ℕ) (rec : Recording) → admissionAt f a ≡ answers rec → Sound f rec
-unfolding admissionAt
-sound-at f a rec e =
-    let limit = passed (leb (length f) 268435456) 2 268435456 (demand (leb a (length f)) 3 a (answers (recordingAt f a))) e in
-    let header = passed (leb a (length f)) 3 a (answers (recordingAt f a)) (limit .1) in
-    let there : a ≤ length f = leb-true a (length f) (header .0) in
-    let few : length f ≤ 268435456 = leb-true (length f) 268435456 (limit .0) in
-    let same : recordingAt f a ≡ rec = cc in
-    subst (Sound f) same (record { whole = omega arith; all = refl; within = few })
-
-sound-by : (m : Magic) (f : List ℕ) (dss ds2 : Bool) (rec : Recording) → admissionBy m f dss ds2 ≡ answers rec → Sound f rec
-sound-by Dss f dss ds2 rec e = sound-at f _ rec (passed dss _ _ _ e .1)
-sound-by Ds2 f dss ds2 rec e = sound-at f _ rec (passed ds2 _ _ _ e .1)
-sound-by Encrypted f dss ds2 rec e = absurd (not-both e)
-sound-by Grundig f dss ds2 rec e = absurd (not-both e)
-sound-by Other f dss ds2 rec e = absurd (not-both e)
-
-pub sound : (f : List ℕ) (dss ds2 : Bool) (rec : Recording) → admission f dss ds2 ≡ answers rec → Sound f rec
-unfolding admission
-sound f dss ds2 rec e = sound-by (magicOf f) f dss ds2 rec e

@@ -1,12 +1,9 @@
 -- A good header of a DS2 audio block.
 -- Assumes nothing.
-use Prim.Native.Nat.{ℕ, _+_, _<_}
-use mathlib.Core.Path.{_≡_}
+use Prim.Native.Nat.{ℕ}
 use mathlib.Core.List.{List}
-use mathlib.Core.Bool.{Bool, false, _&&_, _||_}
-use native.Mathlib.Omega.{arith}
-use borrow.Author.Tests.{lt-leb}
-use lib.ListN.{getD, length, drop, length-drop}
+use mathlib.Core.Bool.{Bool, _&&_, _||_}
+use lib.ListN.{getD, length}
 use lib.Dec.{leb, ltb, eqb}
 
 -- 0, 1, 2, 3, 6 or 7
@@ -18,12 +15,3 @@ unfoldable pub goodHeader : List ℕ → Bool
 goodHeader h =
     leb 6 (length h) && eqb (getD h 0 0) 0x0F && eqb (getD h 3 0) 0xFF && eqb (getD h 5 0) 0xFF && ltb 0 (getD h 2 0)
     && goodType (getD h 4 0)
-
--- ---- laws
-
--- where 6 bytes are no longer there, there is no good header
-pub none-past : (f : List ℕ) (p : ℕ) → length f < p + 6 → goodHeader (drop p f) ≡ false
-unfolding goodHeader
-none-past f p h =
-    let short : length (drop p f) < 6 = simp length-drop (omega arith) in
-    simp (lt-leb 6 (length (drop p f)) short)

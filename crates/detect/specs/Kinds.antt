@@ -1,11 +1,8 @@
 -- The type of a DS2 file, what kind of reading it has, and what `detect_format` reports for it.
 -- Assumes nothing.
-use Prim.Native.Nat.{ℕ, zero, suc, _+_, _≤_}
-use mathlib.Core.Path.{_≡_}
+use Prim.Native.Nat.{ℕ, zero, suc, _+_}
 use mathlib.Core.List.{List}
 use mathlib.Core.Bool.{cond}
-use borrow.Author.Tests.{le-ltb, lt-ltb, ne-eqb}
-use native.Mathlib.Omega.{arith}
 use lib.ListN.{length}
 use lib.Dec.{ltb, eqb}
 use Rattle.blocks.specs.Places.{wholeBlocks}
@@ -31,25 +28,3 @@ kindOf t = cond (ltb t 6) Sp (cond (eqb t 7) Qp7 Qp)
 -- 6 is reported as QP, 7 as QP7, and every other type as SP
 unfoldable pub formatOf : ℕ → AudioFormat
 formatOf t = cond (eqb t 7) Ds2Qp7 (cond (eqb t 6) Ds2Qp Ds2Sp)
-
--- ---- laws
-
--- types 8 to 255 are reported as SP although they read as QP
-pub reported-otherwise : (t : ℕ) → 8 ≤ t → (formatOf t ≡ Ds2Sp) × (kindOf t ≡ Qp)
-unfolding formatOf kindOf
-reported-otherwise t h =
-    let six : t ≡ 6 → ⊥ = λ e. omega arith in
-    let seven : t ≡ 7 → ⊥ = λ e. omega arith in
-    (simp (ne-eqb t 7 seven, ne-eqb t 6 six), simp (le-ltb t 6 (omega arith), ne-eqb t 7 seven))
-
-pub type-none : (f : List ℕ) (a n b : ℕ) → n ≡ 0 → firstType f a n b ≡ 0
-unfolding firstType
-type-none f a n b e = rw e
-
-pub type-here : (f : List ℕ) (a n b k : ℕ) → n ≡ suc k → 1 ≤ countOf f a b → firstType f a n b ≡ typeOf f a b
-unfolding firstType
-type-here f a n b k e h = rw e (simp (lt-ltb 0 (countOf f a b) h))
-
-pub type-later : (f : List ℕ) (a n b k : ℕ) → n ≡ suc k → countOf f a b ≤ 0 → firstType f a n b ≡ firstType f a k (b + 1)
-unfolding firstType
-type-later f a n b k e h = rw e (simp (le-ltb 0 (countOf f a b) h))

@@ -1,5 +1,5 @@
+-- The definitions of this crate, a file for each idea. They rest on those of the crates below.
 pub mod Packet
 pub mod Start
 pub mod Walk
-pub mod Longer
 pub mod Gathered

@@ -1,15 +1,8 @@
 -- Where the frames of a DSS block start in the payload stream.
 -- Assumes nothing.
-use Prim.Native.Nat.{ℕ, _+_, _*_, _-_, _≤_, min}
+use Prim.Native.Nat.{ℕ, _+_, _*_, _-_, min}
 use mathlib.Core.Bool.{Bool, cond}
-use native.Mathlib.Omega.{arith}
 
 -- 506 times the block's number, and then twice byte 1 and the flag less 6, which is at least 0 and at most 506
 unfoldable pub dssStart : ℕ → ℕ → Bool → ℕ
 dssStart block first swap = 506 * block + min 506 (2 * first + 2 * cond swap 1 0 - 6)
-
--- ---- laws
-
-pub start-most : (block first : ℕ) (swap : Bool) → dssStart block first swap ≤ 506 * block + 506
-unfolding dssStart
-start-most block first swap = omega arith

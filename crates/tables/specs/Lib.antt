@@ -1,6 +1,4 @@
-pub mod Cases
+-- The definitions of this crate, a file for each idea. They rest on those of the crates below.
 pub mod Table
 pub mod Lent
-pub mod Parts
-pub mod Tests
 pub mod Settled

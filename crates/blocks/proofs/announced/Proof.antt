@@ -3,7 +3,8 @@
 use Prim.Native.Nat.{_*_, _-_, _≤_}
 use mathlib.Core.Path.{_≡_}
 use native.Mathlib.Omega.{arith}
-use Rattle.blocks.specs.Headers.{announcedIn, announced-more}
+use Rattle.blocks.specs.Headers.{announcedIn}
+use Rattle.blocks.proofs.Headers.{announced-more}
 use borrow.Author.Needs.{needs}
 use Rattle.blocks.proofs.announced.Statement.{statement}
 use Rattle.blocks.proofs.announced.Tie as tie

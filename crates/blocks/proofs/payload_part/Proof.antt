@@ -3,7 +3,7 @@
 use Prim.Native.Nat.{_+_}
 use mathlib.Core.Path.{_≡_}
 use Rattle.blocks.specs.Places.{blockAt}
-use Rattle.tables.specs.Parts.{part-is}
+use Rattle.tables.proofs.Parts.{part-is}
 use native.Mathlib.Omega.{arith}
 use borrow.Author.Needs.{needs}
 use Rattle.blocks.proofs.payload_part.Statement.{statement}

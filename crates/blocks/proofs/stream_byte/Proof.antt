@@ -4,7 +4,7 @@ use mathlib.Core.Path.{ap, sym, _∙_}
 use Prim.Native.Nat.{ℕ}
 use lib.ListN.{getD}
 use denote.Ref.{now}
-use Rattle.blocks.specs.Places.{stream-in, stream-past}
+use Rattle.blocks.proofs.Places.{stream-in, stream-past}
 use borrow.Author.Needs.{needs}
 use Rattle.blocks.proofs.stream_byte.Statement.{statement}
 use Rattle.blocks.proofs.stream_byte.Tie as tie

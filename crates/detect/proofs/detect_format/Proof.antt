@@ -1,7 +1,8 @@
 -- `detect::detect_format` meets its contract: by the magic, each arm being that case of the definition.
 -- Assumes nothing.
 use mathlib.Core.Path.{refl}
-use Rattle.detect.specs.Format.{formatBy, detected-as}
+use Rattle.detect.specs.Format.{formatBy}
+use Rattle.detect.proofs.Format.{detected-as}
 use borrow.Author.Needs.{needs}
 use Rattle.detect.proofs.detect_format.Statement.{statement}
 use Rattle.detect.proofs.detect_format.Tie as tie

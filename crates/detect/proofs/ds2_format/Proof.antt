@@ -2,8 +2,8 @@
 -- Assumes nothing.
 use native.Mathlib.Omega.{arith}
 use mathlib.Core.Path.{_∙_}
-use Rattle.detect.specs.Start.{start-small}
-use Rattle.detect.specs.Format.{ds2-short, ds2-cut, ds2-typed}
+use Rattle.detect.proofs.Start.{start-small}
+use Rattle.detect.proofs.Format.{ds2-short, ds2-cut, ds2-typed}
 use borrow.Author.Needs.{needs}
 use Rattle.detect.proofs.ds2_format.Statement.{statement}
 use Rattle.detect.proofs.ds2_format.Tie as tie

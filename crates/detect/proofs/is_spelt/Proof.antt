@@ -3,7 +3,7 @@
 use mathlib.Core.Path.{refl}
 use borrow.Author.Tests.{eq-eqb, ne-eqb}
 use mathlib.Core.Bool.{and-false}
-use Rattle.tables.specs.Tests.{both, last-of-all}
+use Rattle.tables.proofs.Tests.{both, last-of-all}
 use Rattle.detect.specs.Magics.{spells}
 use borrow.Author.Needs.{needs}
 use Rattle.detect.proofs.is_spelt.Statement.{statement}

@@ -1,7 +1,7 @@
 -- `detect::magic_of` meets its contract: by the length and the three names in their order.
 -- Assumes nothing.
 use borrow.Author.Tests.{lt-ltb, le-ltb}
-use Rattle.tables.specs.Tests.{told}
+use Rattle.tables.proofs.Tests.{told}
 use Rattle.detect.specs.Magics.{magicOf}
 use borrow.Author.Needs.{needs}
 use Rattle.detect.proofs.magic_of.Statement.{statement}

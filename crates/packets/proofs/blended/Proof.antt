@@ -5,8 +5,9 @@ use mathlib.Core.Path.{_≡_, refl, _∙_}
 use mathlib.Core.Bool.{cond}
 use lib.ListN.{length, getD}
 use lib.Dec.{eqb}
-use Rattle.tables.specs.Lent.{Leaves, leaves-none, leaves-next, leaves-to, leaves-at}
-use Rattle.packets.specs.Gathered.{blend}
+use Rattle.tables.specs.Lent.{Leaves}
+use Rattle.tables.proofs.Lent.{leaves-none, leaves-next, leaves-to, leaves-at}
+use Rattle.packets.proofs.Gathered.{blend}
 use borrow.Author.Needs.{needs}
 use Rattle.packets.proofs.blended.Statement.{statement}
 use Rattle.packets.proofs.blended.Tie as tie

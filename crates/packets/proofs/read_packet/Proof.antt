@@ -3,7 +3,7 @@
 use mathlib.Core.Path.{_∙_}
 use denote.Ref.{now}
 use Rattle.blocks.specs.Places.{streamAt}
-use Rattle.packets.specs.Gathered.{in-block, in-window, full-count, gathered}
+use Rattle.packets.proofs.Gathered.{in-block, in-window, full-count, gathered}
 use borrow.Author.Needs.{needs}
 use Rattle.packets.proofs.read_packet.Statement.{statement}
 use Rattle.packets.proofs.read_packet.Tie as tie

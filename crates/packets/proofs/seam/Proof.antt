@@ -3,7 +3,7 @@
 use mathlib.Core.Path.{refl}
 use denote.Ref.{now}
 use lib.ListN.{getD-replicate}
-use Rattle.packets.specs.Gathered.{window-none, window-one, window-two}
+use Rattle.packets.proofs.Gathered.{window-none, window-one, window-two}
 use borrow.Author.Needs.{needs}
 use Rattle.packets.proofs.seam.Statement.{statement}
 use Rattle.packets.proofs.seam.Tie as tie

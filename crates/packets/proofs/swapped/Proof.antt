@@ -3,8 +3,9 @@
 use Prim.Native.Nat.{_-_, _≤_, _<_}
 use mathlib.Core.Path.{_≡_, refl}
 use lib.ListN.{length, getD}
-use Rattle.tables.specs.Lent.{Leaves, leaves-none, leaves-next, leaves-again, leaves-as, leaves-to, leaves-table}
-use Rattle.packets.specs.Gathered.{blended-is}
+use Rattle.tables.specs.Lent.{Leaves}
+use Rattle.tables.proofs.Lent.{leaves-none, leaves-next, leaves-again, leaves-as, leaves-to, leaves-table}
+use Rattle.packets.proofs.Gathered.{blended-is}
 use borrow.Author.Needs.{needs}
 use Rattle.packets.proofs.swapped.Statement.{statement}
 use Rattle.packets.proofs.swapped.Tie as tie

@@ -3,7 +3,8 @@
 use Prim.Native.Nat.{_+_, _-_, _≤_}
 use mathlib.Core.Path.{refl}
 use lib.ListN.{getD}
-use Rattle.tables.specs.Lent.{Leaves, leaves-none, leaves-more, leaves-to}
+use Rattle.tables.specs.Lent.{Leaves}
+use Rattle.tables.proofs.Lent.{leaves-none, leaves-more, leaves-to}
 use borrow.Author.Needs.{needs}
 use Rattle.packets.proofs.take_run.Statement.{statement}
 use Rattle.packets.proofs.take_run.Tie as tie

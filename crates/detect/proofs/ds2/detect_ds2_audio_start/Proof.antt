@@ -1,7 +1,7 @@
 -- `detect::ds2::detect_ds2_audio_start` meets its contract: by the first byte, which past the end counts as 0.
 -- Assumes nothing.
 use mathlib.Core.Path.{_∙_}
-use Rattle.tables.specs.Tests.{told}
+use Rattle.tables.proofs.Tests.{told}
 use borrow.Author.Tests.{eq-eqb, ne-eqb}
 use Rattle.detect.specs.Start.{audioStart}
 use borrow.Author.Needs.{needs}

@@ -4,7 +4,8 @@ use native.Mathlib.Nat.{sub-zero}
 use Prim.Native.Nat.{suc, _+_, _-_, _≤_}
 use mathlib.Core.Path.{_≡_, sym, _∙_}
 use native.Mathlib.Omega.{arith}
-use Rattle.detect.specs.Kinds.{formatType, firstType, type-none, type-here, type-later}
+use Rattle.detect.specs.Kinds.{formatType, firstType}
+use Rattle.detect.proofs.Types.{type-none, type-here, type-later}
 use borrow.Author.Needs.{needs}
 use Rattle.detect.proofs.ds2.detect_ds2_format_type.Statement.{statement}
 use Rattle.detect.proofs.ds2.detect_ds2_format_type.Tie as tie

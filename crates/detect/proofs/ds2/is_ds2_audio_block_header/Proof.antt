@@ -1,7 +1,7 @@
 -- `detect::ds2::is_ds2_audio_block_header` meets its contract: one test that fails decides, and the last where the others hold.
 -- Assumes nothing.
 use mathlib.Core.Bool.{and-false}
-use Rattle.tables.specs.Tests.{both, last-of-all}
+use Rattle.tables.proofs.Tests.{both, last-of-all}
 use borrow.Author.Tests.{eq-eqb, ne-eqb, lt-ltb, le-ltb, lt-leb, le-leb}
 use Rattle.detect.specs.Header.{goodHeader}
 use borrow.Author.Needs.{needs}

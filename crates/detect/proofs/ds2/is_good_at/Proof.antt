@@ -1,11 +1,11 @@
 -- `detect::ds2::is_good_at` meets its contract: past the file's end there is no header.
 -- Assumes nothing.
-use Rattle.tables.specs.Parts.{rest-is}
+use Rattle.tables.proofs.Parts.{rest-is}
 use Prim.Native.Nat.{_+_, _<_}
 use lib.ListN.{length}
 use mathlib.Core.Path.{sym}
 use native.Mathlib.Omega.{arith}
-use Rattle.detect.specs.Header.{none-past}
+use Rattle.detect.proofs.Header.{none-past}
 use borrow.Author.Needs.{needs}
 use Rattle.detect.proofs.ds2.is_good_at.Statement.{statement}
 use Rattle.detect.proofs.ds2.is_good_at.Tie as tie

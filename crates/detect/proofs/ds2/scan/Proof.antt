@@ -6,8 +6,9 @@ use mathlib.Core.Logic.{⊎-elim}
 use borrow.Author.Tests.{not-true, not-false}
 use lib.ListN.{length}
 use native.Mathlib.Omega.{arith}
-use Rattle.detect.specs.Start.{score, Ran, ran-none, ran-more, ran-ends, scan, scan-none, scan-four, scan-better, scan-worse, scanned}
-use Rattle.tables.specs.Tests.{told}
+use Rattle.detect.specs.Start.{score, scan, scanned}
+use Rattle.detect.proofs.Start.{Ran, ran-none, ran-more, ran-ends, scan-none, scan-four, scan-better, scan-worse}
+use Rattle.tables.proofs.Tests.{told}
 use borrow.Author.Needs.{needs}
 use Rattle.detect.proofs.ds2.scan.Statement.{statement}
 use Rattle.detect.proofs.ds2.scan.Tie as tie

@@ -4,7 +4,8 @@ use Prim.Native.Nat.{ℕ}
 use mathlib.Core.Path.{refl, ap, _∙_}
 use denote.Ref.{now}
 use Rattle.refusals.specs.Said.{demand}
-use Rattle.detect.specs.Admissions.{admissionAt, admission-as}
+use Rattle.detect.specs.Admissions.{admissionAt}
+use Rattle.detect.proofs.Admissions.{admission-as}
 use borrow.Author.Needs.{needs}
 use Rattle.detect.proofs.whole.admit.Statement.{statement}
 use Rattle.detect.proofs.whole.admit.Tie as tie

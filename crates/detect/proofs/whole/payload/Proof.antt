@@ -1,10 +1,10 @@
 -- `detect::whole::payload` meets its contract: by the ways of a request; the part is that of the block.
 -- Assumes nothing.
-use Rattle.detect.specs.Payload.{place-refused, place-absent, block-there, shown-part, shown-none}
+use Rattle.detect.proofs.Payload.{place-refused, place-absent, block-there, shown-part, shown-none}
 use mathlib.Core.Path.{_≡_, ap, _∙_}
 use mathlib.Core.Bool.{true}
 use denote.Ref.{now}
-use Rattle.tables.specs.Tests.{told}
+use Rattle.tables.proofs.Tests.{told}
 use Rattle.refusals.specs.Said.{answers}
 use Rattle.detect.specs.Admissions.{admission, admissionSays}
 use borrow.Author.Needs.{needs}

@@ -1,11 +1,11 @@
 -- `detect::whole::payload_place` meets its contract: by the ways of a request.
 -- Assumes nothing.
-use Rattle.detect.specs.Payload.{place-refused, place-absent, place-at, block-there}
+use Rattle.detect.proofs.Payload.{place-refused, place-absent, place-at, block-there}
 use mathlib.Core.Path.{_≡_, ap, _∙_}
 use mathlib.Core.Bool.{true}
 use denote.Ref.{now}
 use native.Mathlib.Omega.{arith}
-use Rattle.tables.specs.Tests.{told}
+use Rattle.tables.proofs.Tests.{told}
 use Rattle.refusals.specs.Said.{answers}
 use Rattle.detect.specs.Admissions.{admission, admissionSays}
 use borrow.Author.Needs.{needs}

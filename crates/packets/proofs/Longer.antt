@@ -6,10 +6,11 @@ use mathlib.Core.Bool.{Bool, true, false, cond}
 use native.Mathlib.Omega.{arith}
 use borrow.Author.Tests.{eq-eqb, ne-eqb}
 use lib.Dec.{eqb}
-use Rattle.tables.specs.Cases.{by-equal}
-use Rattle.tables.specs.Table.{same-table}
+use Rattle.tables.proofs.Cases.{by-equal}
+use Rattle.tables.proofs.Table.{same-table}
 use Rattle.packets.specs.declared.Packet.{Packet}
-use Rattle.packets.specs.Packet.{readSize, swappedByte, packetByte, carryAfter, from, fileCount, isWhole, whole-says, IsPacket}
+use Rattle.packets.specs.Packet.{readSize, swappedByte, packetByte, carryAfter, from, fileCount, isWhole, IsPacket}
+use Rattle.packets.proofs.Packets.{whole-says}
 use Rattle.packets.specs.Walk.{Walk, steps}
 
 -- two streams agree below n

@@ -1,0 +1,37 @@
+-- The ways of a detected format.
+-- Assumes nothing.
+use Prim.Native.Nat.{ℕ, _+_, _≤_, _<_}
+use mathlib.Core.Path.{_≡_, ap, _∙_}
+use mathlib.Core.List.{List}
+use mathlib.Core.Bool.{and-false}
+use borrow.Author.Tests.{lt-ltb, le-ltb}
+use lib.ListN.{length}
+use Rattle.tables.proofs.Tests.{told}
+use Rattle.detect.specs.declared.Magic.{Magic}
+use Rattle.detect.specs.declared.Magic.the-variants.{Ds2}
+use Rattle.detect.specs.declared.AudioFormat.{AudioFormat}
+use Rattle.detect.specs.declared.AudioFormat.the-variants.{None}
+use Rattle.detect.specs.Start.{audioStart}
+use Rattle.detect.specs.Kinds.{formatType, formatOf}
+use Rattle.detect.specs.Magics.{magicOf}
+use Rattle.detect.specs.Format.{formatBy, detected}
+
+pub detected-as : {r : AudioFormat} (f : List ℕ) {m n : Magic} → m ≡ magicOf f → m ≡ n → r ≡ formatBy n f → r ≡ detected f
+unfolding detected
+detected-as f p q e = e ∙ ap (λ (m : Magic). formatBy m f) (told q p)
+
+-- the ways of a DS2 file
+module _ (f : List ℕ) where
+  pub ds2-short : length f ≤ 0x604 → None ≡ formatBy Ds2 f
+  unfolding formatBy
+  ds2-short h = simp (le-ltb 0x604 (length f) h)
+
+  pub ds2-cut : (a : ℕ) → a ≡ audioStart f → length f ≤ a + 4 → None ≡ formatBy Ds2 f
+  unfolding formatBy
+  ds2-cut a e h = simp (le-ltb (audioStart f + 4) (length f) (rw e at h), and-false)
+
+  pub ds2-typed : (a t : ℕ) → 0x604 < length f → a ≡ audioStart f → a + 4 < length f → t ≡ formatType f a → formatOf t ≡ formatBy Ds2 f
+  unfolding formatBy
+  ds2-typed a t h e l q =
+      let type-is : t ≡ formatType f (audioStart f) = rw e at q in
+      simp (type-is, lt-ltb 0x604 (length f) h, lt-ltb (audioStart f + 4) (length f) (rw e at l))

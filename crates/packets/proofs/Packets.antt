@@ -1,0 +1,70 @@
+-- Whole and short, counts and carries; and that two packets of one read are the same.
+-- Assumes nothing.
+use Prim.Native.Nat.{ℕ, _+_, _-_, _≤_, _<_, min}
+use mathlib.Core.Path.{_≡_, refl}
+use mathlib.Core.List.{List}
+use mathlib.Core.Bool.{Bool, true, false}
+use native.Mathlib.Omega.{arith}
+use borrow.Author.Tests.{eq-eqb, eqb-true, eqb-false}
+use Rattle.tables.proofs.Cases.{by-order}
+use Rattle.packets.specs.declared.Packet.{Packet}
+use Rattle.packets.specs.Packet.{readSize, carryAfter, fileCount, isWhole, IsPacket}
+
+pub read-most : (swap : Bool) → readSize swap ≤ 42
+read-most true = omega arith
+read-most false = omega arith
+
+pub count-most : (n : ℕ) (swap : Bool) (q : ℕ) → fileCount n swap q ≤ 42
+unfolding fileCount
+count-most n swap q = omega (arith, read-most swap)
+
+-- a packet is whole exactly when its read is complete
+pub whole-says : (n : ℕ) (swap : Bool) (q : ℕ) → isWhole n swap q ≡ true → q + readSize swap ≤ n
+unfolding isWhole fileCount
+whole-says n swap q e = complete swap (eqb-true (fileCount n swap q) (readSize swap) e)
+  where
+    complete : (swap : Bool) → fileCount n swap q ≡ readSize swap → q + readSize swap ≤ n
+    complete true e = omega arith
+    complete false e = omega arith
+
+pub whole-if : (n : ℕ) (swap : Bool) (q : ℕ) → q + readSize swap ≤ n → isWhole n swap q ≡ true
+unfolding isWhole fileCount
+whole-if n swap q h =
+    let all : min (readSize swap) (n - q) ≡ readSize swap = omega arith in
+    eq-eqb (min (readSize swap) (n - q)) (readSize swap) all
+
+pub short-says : (n : ℕ) (swap : Bool) (q : ℕ) → isWhole n swap q ≡ false → n < q + readSize swap
+unfolding isWhole fileCount
+short-says n swap q e =
+    let less : min (readSize swap) (n - q) ≡ readSize swap → ⊥ = eqb-false (min (readSize swap) (n - q)) (readSize swap) e in
+    by-order n (q + readSize swap) (λ h. h) (λ h. absurd (less (omega arith)))
+
+-- a whole packet's count is its read size, a short one's what the stream has left
+pub count-whole : (n : ℕ) (swap : Bool) (q : ℕ) → q + readSize swap ≤ n → fileCount n swap q ≡ readSize swap
+unfolding fileCount
+count-whole n swap q h = omega arith
+
+pub count-short : (n : ℕ) (swap : Bool) (q : ℕ) → n ≤ q + readSize swap → fileCount n swap q ≡ n - q
+unfolding fileCount
+count-short n swap q h = omega arith
+
+-- a swapped read carries on what it was given, an unswapped one its byte 40
+pub carry-kept : (carry : ℕ) (c : ℕ → ℕ) → carryAfter true carry c ≡ carry
+unfolding carryAfter
+carry-kept carry c = refl
+
+pub carry-new : (carry : ℕ) (c : ℕ → ℕ) → carryAfter false carry c ≡ c 40
+unfolding carryAfter
+carry-new carry c = refl
+
+-- two packets that a read may give are the same
+packet : List ℕ → ℕ → ℕ → ℕ → Packet
+packet bytes count carry next = record { bytes = bytes; count = count; carry = carry; next = record { 0 = next } }
+
+pub only-packet : (s : ℕ → ℕ) (n : ℕ) (swap : Bool) (carry q : ℕ) (p r : Packet) → IsPacket s n swap carry q p
+    → IsPacket s n swap carry q r → p ≡ r
+unfolding packet
+only-packet s n swap carry q p r x y = same
+  where
+    same : packet (p .bytes) (p .count) (p .carry) (p .next .0) ≡ packet (r .bytes) (r .count) (r .carry) (r .next .0)
+    same = cc (x .bytes-are, x .count-is, x .carry-is, x .next-is, y .bytes-are, y .count-is, y .carry-is, y .next-is)

@@ -1,0 +1,54 @@
+-- A walk packet by packet; and its place and parity with no walk.
+-- Assumes nothing.
+use Prim.Native.Nat.{ℕ, zero, suc, _+_, _*_, _/_, _%_, _<_}
+use mathlib.Core.Path.{_≡_, refl, sym, ap, _∙_}
+use mathlib.Core.Bool.{Bool, true, false, not, Bool·not-not}
+use native.Mathlib.Numerals.{add-one}
+use native.Mathlib.Omega.{arith}
+use borrow.Author.Tests.{eq-eqb, ne-eqb}
+use Rattle.tables.proofs.Cases.{by-equal}
+use Rattle.packets.specs.Packet.{readSize}
+use Rattle.packets.specs.Walk.{Walk, step, steps, byteOf, joinedAt, reach, parity}
+
+pub steps-none : (s : ℕ → ℕ) (w : Walk) → steps s w 0 ≡ w
+unfolding steps
+steps-none s w = refl
+
+pub steps-more : (s : ℕ → ℕ) (w : Walk) (k : ℕ) → steps s w (k + 1) ≡ step s (steps s w k)
+unfolding steps
+steps-more s w k = ap (steps s w) (add-one k)
+
+pub joined-in : (s : ℕ → ℕ) (w : Walk) (n i : ℕ) → i < 42 → byteOf s (steps s w n) i ≡ joinedAt s w (42 * n + i)
+unfolding joinedAt
+joined-in s w n i h =
+    let number : (42 * n + i) / 42 ≡ n = omega arith in
+    let byte : (42 * n + i) % 42 ≡ i = omega arith in
+    rw (number, byte)
+
+reach-none : (swap : Bool) → reach swap 0 ≡ 0
+reach-none true = refl
+reach-none false = refl
+
+parity-flips : (swap : Bool) (k : ℕ) → parity swap (suc k) ≡ not (parity swap k)
+parity-flips swap k =
+    by-equal (k % 2) 0
+    (λ even. let odd : suc k % 2 ≡ 0 → ⊥ = λ e. omega arith in simp (eq-eqb _ _ even, ne-eqb _ _ odd))
+    (λ odd. let even : suc k % 2 ≡ 0 = omega arith in simp (ne-eqb _ _ odd, eq-eqb _ _ even, Bool·not-not))
+
+reach-more : (swap : Bool) (k : ℕ) → reach swap (suc k) ≡ reach swap k + readSize (parity swap k)
+reach-more true k =
+    by-equal (k % 2) 0 (λ even. simp (eq-eqb _ _ even) (omega arith)) (λ odd. simp (ne-eqb _ _ odd) (omega arith))
+reach-more false k =
+    by-equal (k % 2) 0 (λ even. simp (eq-eqb _ _ even) (omega arith)) (λ odd. simp (ne-eqb _ _ odd) (omega arith))
+
+-- parity and place after k packets, with no walk
+pub steps-swap : (s : ℕ → ℕ) (w : Walk) (k : ℕ) → steps s w k .swap ≡ parity (w .swap) k
+unfolding steps
+steps-swap s w zero = refl
+steps-swap s w (suc k) = ap not (steps-swap s w k) ∙ sym (parity-flips (w .swap) k)
+
+pub steps-place : (s : ℕ → ℕ) (w : Walk) (k : ℕ) → steps s w k .place ≡ w .place + reach (w .swap) k
+unfolding steps
+steps-place s w zero = omega (arith, reach-none (w .swap))
+steps-place s w (suc k) =
+    omega (arith, steps-place s w k, ap readSize (steps-swap s w k), reach-more (w .swap) k)

@@ -1,0 +1,22 @@
+-- What is said when a test holds or fails; and that two values that say the same are the same.
+-- Assumes nothing.
+use Prim.Native.Nat.{ℕ}
+use mathlib.Core.Path.{_≡_, refl, sym, ap, _∙_}
+use mathlib.Core.Bool.{Bool, true, false}
+use native.Mathlib.Omega.{arith}
+use Rattle.refusals.specs.Said.{Said, demand, answers, refuses}
+
+-- a call that refuses does not answer
+pub not-both : {A : Type 0} {a : A} {number beside : ℕ} → refuses number beside ≡ answers a → ⊥
+not-both e = let z : _≡_ {A = ℕ} 0 1 = cc in omega arith
+
+-- what is answered after a test has passed it
+pub passed : {A : Type 0} {a : A} (test : Bool) (number beside : ℕ) (rest : Said A) → demand test number beside rest ≡ answers a
+    → (test ≡ true) × (rest ≡ answers a)
+passed true number beside rest e = (refl, e)
+passed false number beside rest e = absurd (not-both e)
+
+-- where what an enum's value says can be read back, two values that say the same are the same
+pub only-one : {E A : Type 0} (says : E → Said A) (read : Said A → E) → ((x : E) → read (says x) ≡ x)
+    → (x y : E) (said : Said A) → says x ≡ said → says y ≡ said → x ≡ y
+only-one says read back x y said p q = sym (back x) ∙ ap read (p ∙ sym q) ∙ back y
