@@ -2,7 +2,7 @@
 // Every function here is for the crates above. Rests on tables.
 ghost use mathlib.Core.Path.{_≡_};
 ghost use Prim.Native.Nat.{_+_, _*_, _<_, _≤_, _^_};
-ghost use Rattle.blocks.specs.Places.{wholeBlocks, Whole, fileOf, streamAt, payloadOf};
+ghost use Rattle.blocks.specs.Places.{wholeBlocks, Whole, fileOf, payloadOf};
 ghost use Rattle.blocks.specs.Headers.{headerByte, swapOf, countOf, announcedIn};
 
 pub const BLOCK: usize = 512;
@@ -89,18 +89,4 @@ pub fn payload_part(file: &[u8], a: FilePlace, block: usize) -> &[u8]
     let start = first.0;
     let end = start + PAYLOAD;
     &file[start..end]
-}
-
-// The byte at a place of the payload stream of so many whole blocks, and 0 past its end.
-pub fn stream_byte(file: &[u8], a: FilePlace, blocks: usize, q: StreamPlace) -> u8
-    requires { ⌜ Whole (now file) (a .0) blocks ⌝ }
-    ensures { λ r. ⌜ r ≡ streamAt (now (file .entry)) (a .0) blocks (q .0) ⌝ }
-{
-    let at = q.0;
-    if at < PAYLOAD * blocks {
-        let place = in_file(a, q);
-        let i = place.0;
-        return file[i];
-    }
-    0
 }

@@ -12,10 +12,10 @@ use Rattle.tables.proofs.Tests.{told}
 use Rattle.blocks.specs.Places.{wholeBlocks, Whole}
 use Rattle.refusals.specs.Said.{Said, answers, refuses, demand}
 use Rattle.refusals.proofs.Said.{passed, not-both}
-use Rattle.detect.specs.declared.Magic.{Magic}
-use Rattle.detect.specs.declared.Magic.the-variants.{Dss, Ds2, Encrypted, Grundig, Other}
+use Rattle.magic.specs.declared.Magic.{Magic}
+use Rattle.magic.specs.declared.Magic.the-variants.{Dss, Ds2, Encrypted, Grundig, Other}
 use Rattle.detect.specs.declared.Recording.{Recording}
-use Rattle.detect.specs.Magics.{magicOf}
+use Rattle.magic.specs.Magics.{magicOf}
 use Rattle.detect.specs.Admissions.{recordingAt, admissionAt, admissionBy, admission}
 
 -- the ways of an admission

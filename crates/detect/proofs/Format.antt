@@ -7,13 +7,13 @@ use mathlib.Core.Bool.{and-false}
 use borrow.Author.Tests.{lt-ltb, le-ltb}
 use lib.ListN.{length}
 use Rattle.tables.proofs.Tests.{told}
-use Rattle.detect.specs.declared.Magic.{Magic}
-use Rattle.detect.specs.declared.Magic.the-variants.{Ds2}
+use Rattle.magic.specs.declared.Magic.{Magic}
+use Rattle.magic.specs.declared.Magic.the-variants.{Ds2}
 use Rattle.detect.specs.declared.AudioFormat.{AudioFormat}
 use Rattle.detect.specs.declared.AudioFormat.the-variants.{None}
 use Rattle.detect.specs.Start.{audioStart}
 use Rattle.detect.specs.Kinds.{formatType, formatOf}
-use Rattle.detect.specs.Magics.{magicOf}
+use Rattle.magic.specs.Magics.{magicOf}
 use Rattle.detect.specs.Format.{formatBy, detected}
 
 pub detected-as : {r : AudioFormat} (f : List ℕ) {m n : Magic} → m ≡ magicOf f → m ≡ n → r ≡ formatBy n f → r ≡ detected f

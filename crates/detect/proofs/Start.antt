@@ -61,7 +61,7 @@ module _ (f : List ℕ) (p best most : ℕ) where
   unfolding scan
   scan-worse k j v e r h l = rw e (simp (r, lt-leb _ _ h, le-ltb _ _ l))
 
--- the start lies in the first 0x10000 bytes and their end
+-- a start lies at 0x10000 at the most
 scan-small : (f : List ℕ) (k p best most top : ℕ) → best ≤ top → p + 512 * k ≤ top + 512 → scan f k p best most ≤ top
 unfolding scan
 scan-small f zero p best most top b h = b

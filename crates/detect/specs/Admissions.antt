@@ -7,13 +7,13 @@ use lib.ListN.{getD, length}
 use lib.Dec.{leb}
 use Rattle.blocks.specs.Places.{wholeBlocks}
 use Rattle.refusals.specs.Said.{Said, answers, refuses, refusal, demand}
-use Rattle.detect.specs.declared.Magic.{Magic}
-use Rattle.detect.specs.declared.Magic.the-variants.{Dss, Ds2, Encrypted, Grundig, Other}
+use Rattle.magic.specs.declared.Magic.{Magic}
+use Rattle.magic.specs.declared.Magic.the-variants.{Dss, Ds2, Encrypted, Grundig, Other}
 use Rattle.detect.specs.declared.Recording.{Recording}
 use Rattle.detect.specs.declared.Admission.{Admission}
 use Rattle.detect.specs.declared.Admission.the-variants.{Admitted, Refused}
 use Rattle.detect.specs.Start.{audioStart}
-use Rattle.detect.specs.Magics.{magicOf}
+use Rattle.magic.specs.Magics.{magicOf}
 
 -- the recording whose audio starts at a
 abbrev pub recordingAt : List ℕ → ℕ → Recording
@@ -32,6 +32,7 @@ admissionBy Encrypted f dss ds2 = refuses 1 0
 admissionBy Grundig f dss ds2 = refuses 1 0
 admissionBy Other f dss ds2 = refuses 1 0
 
+-- of any file: refusals 1, 2 and 3 in that order, or the recording
 unfoldable pub admission : List ℕ → Bool → Bool → Said Recording
 admission f dss ds2 = admissionBy (magicOf f) f dss ds2
 

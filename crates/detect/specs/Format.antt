@@ -5,13 +5,13 @@ use mathlib.Core.List.{List}
 use mathlib.Core.Bool.{cond, _&&_}
 use lib.ListN.{getD, length}
 use lib.Dec.{ltb}
-use Rattle.detect.specs.declared.Magic.{Magic}
-use Rattle.detect.specs.declared.Magic.the-variants.{Dss, Ds2, Encrypted, Grundig, Other}
+use Rattle.magic.specs.declared.Magic.{Magic}
+use Rattle.magic.specs.declared.Magic.the-variants.{Dss, Ds2, Encrypted, Grundig, Other}
 use Rattle.detect.specs.declared.AudioFormat.{AudioFormat}
 use Rattle.detect.specs.declared.AudioFormat.the-variants.{None, DssSp, GrundigSp}
 use Rattle.detect.specs.Start.{audioStart}
 use Rattle.detect.specs.Kinds.{formatType, formatOf}
-use Rattle.detect.specs.Magics.{magicOf}
+use Rattle.magic.specs.Magics.{magicOf}
 
 -- DSS and Grundig by the magic alone; an encrypted file by its byte 0x604; a DS2 file by its type, if it goes past 0x604 and
 -- past the fourth byte of its audio
@@ -23,5 +23,6 @@ formatBy Ds2 f =
     cond (ltb 0x604 (length f) && ltb (audioStart f + 4) (length f)) (formatOf (formatType f (audioStart f))) None
 formatBy Other f = None
 
+-- of any file
 unfoldable pub detected : List ℕ → AudioFormat
 detected f = formatBy (magicOf f) f

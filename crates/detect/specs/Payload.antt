@@ -16,6 +16,7 @@ use Rattle.detect.specs.Admissions.{admission}
 abbrev pub placeIn : Recording → ℕ → Said ℕ
 placeIn rec block = demand (ltb block (rec .blocks)) 12 0 (answers (fileOf (rec .start .0) (506 * block)))
 
+-- of any file: what every whole call asks first, then the block
 unfoldable pub payloadPlace : List ℕ → ℕ → Said ℕ
 payloadPlace f block = onward (admission f true true) (λ rec. placeIn rec block)
 
@@ -29,5 +30,6 @@ abbrev pub shownAt : List ℕ → Said ℕ → List ℕ
 shownAt f (answers place) = take 506 (drop place f)
 shownAt f (refuses number beside) = []
 
+-- of any file
 unfoldable pub payloadShown : List ℕ → ℕ → List ℕ
 payloadShown f block = shownAt f (payloadPlace f block)

@@ -28,5 +28,6 @@ scan f (suc k) p best most =
 unfoldable pub scanned : List ℕ → ℕ
 scanned f = scan f (min 0x10000 (length f - 6) / 512) 512 0x1000 0
 
+-- by the first byte; an empty file has none
 unfoldable pub audioStart : List ℕ → ℕ
 audioStart f = cond (eqb (getD f 0 0) 7) (scanned f) 0x600

@@ -10,10 +10,11 @@ ghost use Rattle.detect.specs.Header.{goodType, goodHeader};
 ghost use Rattle.detect.specs.Start.{scanned, audioStart};
 ghost use Rattle.detect.specs.Kinds.{formatType, kindOf};
 
-// Where the audio starts if no scan says otherwise, and if the scan finds nothing.
-const HEADER_SIZE: usize = 0x600;
+// Where the audio starts without a scan.
+const DS2_HEADER_SIZE: usize = 0x600;
 
-const UNKNOWN_START: usize = 0x1000;
+// Where the audio starts if the scan finds no good header.
+const UNSCANNED_START: usize = 0x1000;
 
 fn is_good_type(byte: u8) -> bool
     ensures { λ r. ⌜ r ≡ goodType byte ⌝ }
@@ -75,7 +76,7 @@ fn scan(file: &[u8]) -> usize
 {
     let end = scan_end(file.len());
     let mut offset = BLOCK;
-    let mut best = UNKNOWN_START;
+    let mut best = UNSCANNED_START;
     let mut most: usize = 0;
     'scan: loop {
         if end < offset {
@@ -103,10 +104,10 @@ fn scan(file: &[u8]) -> usize
 pub fn detect_ds2_audio_start(file: &[u8]) -> FilePlace
     ensures { λ r. ⌜ r .0 ≡ audioStart (now (file .entry)) ⌝ }
 {
-    if crate::byte_or_zero(file, 0) == 7 {
+    if magic::first_byte(file) == 7 {
         return FilePlace(scan(file));
     }
-    FilePlace(HEADER_SIZE)
+    FilePlace(DS2_HEADER_SIZE)
 }
 
 // The type of a file whose audio starts at header_size: that of its first announcing block.

@@ -1,7 +1,6 @@
 // What every whole call asks first, and a block's payload on request. Rests on the rest of this crate,
 // on blocks and on refusals.
 use crate::Admission;
-use crate::Magic;
 use crate::PayloadAnswer;
 use crate::Recording;
 use blocks::BLOCK;
@@ -9,6 +8,7 @@ use blocks::FilePlace;
 use blocks::LIMIT;
 use blocks::PAYLOAD;
 use blocks::StreamPlace;
+use magic::Magic;
 use refusals::Refusal;
 ghost use mathlib.Core.Path.{_≡_};
 ghost use Prim.Native.Nat.{_*_};
@@ -21,15 +21,15 @@ ghost use Rattle.detect.specs.Payload.{payloadPlace, payloadSays, payloa
 fn admit_at(file: &[u8], takes: bool, start: FilePlace) -> Admission
     ensures { λ r. ⌜ admissionSays r ≡ demand takes 1 0 (admissionAt (now (file .entry)) (start .0)) ⌝ }
 {
-    let first = start.0;
+    let begin = start.0;
     if !takes {
-        return Admission::Refused(Refusal::Magic);
+        return Admission::Refused(Refusal::magic());
     }
     if LIMIT < file.len() {
-        return Admission::Refused(Refusal::Limit(LIMIT));
+        return Admission::Refused(Refusal::limit(LIMIT));
     }
-    if file.len() < first {
-        return Admission::Refused(Refusal::Header(start));
+    if file.len() < begin {
+        return Admission::Refused(Refusal::header(start));
     }
     let blocks = blocks::whole_blocks(file.len(), start);
     Admission::Admitted(Recording { start, blocks })
@@ -39,20 +39,20 @@ fn admit_at(file: &[u8], takes: bool, start: FilePlace) -> Admission
 fn dss_audio_start(file: &[u8]) -> FilePlace
     ensures { λ r. ⌜ r .0 ≡ 512 * getD (now (file .entry)) 0 0 ⌝ }
 {
-    FilePlace(BLOCK * tables::wide(crate::byte_or_zero(file, 0)))
+    FilePlace(BLOCK * tables::wide(magic::first_byte(file)))
 }
 
 // For the crates above. Takes a file of the magics that a call reads, or refuses it by 1, 2 or 3.
 pub fn admit(file: &[u8], dss: bool, ds2: bool) -> Admission
     ensures { λ r. ⌜ admissionSays r ≡ admission (now (file .entry)) dss ds2 ⌝ }
 {
-    let magic = crate::magic_of(file);
+    let magic = magic::magic_of(file);
     match magic {
         Magic::Dss => admit_at(file, dss, dss_audio_start(file)),
         Magic::Ds2 => admit_at(file, ds2, crate::ds2::detect_ds2_audio_start(file)),
-        Magic::Encrypted => Admission::Refused(Refusal::Magic),
-        Magic::Grundig => Admission::Refused(Refusal::Magic),
-        Magic::Other => Admission::Refused(Refusal::Magic),
+        Magic::Encrypted => Admission::Refused(Refusal::magic()),
+        Magic::Grundig => Admission::Refused(Refusal::magic()),
+        Magic::Other => Admission::Refused(Refusal::magic()),
     }
 }
 
@@ -67,7 +67,7 @@ pub fn payload_place(file: &[u8], block: usize) -> PayloadAnswer
             let start = recording.start;
             let blocks = recording.blocks;
             if blocks <= block {
-                return PayloadAnswer::Refused(Refusal::Absent);
+                return PayloadAnswer::Refused(Refusal::absent());
             }
             PayloadAnswer::At(blocks::in_file(start, StreamPlace(PAYLOAD * block)))
         }

@@ -1,11 +1,11 @@
-// The bench's examples on the code, and detection's answer for each type: a line each. What they say of the definitions is in
-// specs/, and that it holds in proofs/. Rests on every crate that an example speaks of.
+// The bench's examples on the code, and what detection says of types 8 to 255: a line each. What the examples say of the
+// definitions is in specs/, and that it holds in proofs/. Rests on every crate that an example speaks of.
 use blocks::FilePlace;
 use detect::AudioFormat;
 use detect::Kind;
 use libc::STDOUT_FILENO;
 ghost use mathlib.Core.Path.{_≡_};
-ghost use Prim.Native.Nat.{_≤_};
+ghost use Prim.Native.Nat.{_+_, _≤_};
 ghost use lib.ListN.{length};
 
 fn text(bytes: &[u8]) {
@@ -18,10 +18,12 @@ fn number(n: usize) {
 }
 
 // So many bytes of a packet, from a place on.
-fn show(bytes: &[u8; 42], at: usize, n: usize) {
+fn show(bytes: &[u8; 42], at: usize, n: usize)
+    requires { ⌜ at + n ≤ 42 ⌝ }
+{
     let mut k = 0;
     while k < n {
-        let i = (at % 42 + k % 42) % 42;
+        let i = at + k;
         number(tables::wide(bytes[i]));
         k += 1;
     }

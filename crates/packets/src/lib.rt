@@ -15,6 +15,9 @@ ghost use Rattle.packets.specs.Packet.{readSize, packetByte, carryAfter,
 ghost use Rattle.packets.specs.Start.{dssStart};
 ghost use Rattle.packets.specs.Gathered.{bytesOf, Shifted, Blended, Window};
 
+// A read that begins here in its block, or before, ends inside it whatever its parity: 506 less 42.
+const LAST_INSIDE: usize = 464;
+
 // A packet, with what the next read needs.
 pub struct Packet {
     pub bytes: [u8; 42],
@@ -49,13 +52,13 @@ fn swap_bit(swap: bool) -> usize
     if swap { 1 } else { 0 }
 }
 
-// Where the frames of a DSS block start, by its number, its byte 1 and its flag.
-pub fn dss_start(block: usize, first: usize, swap: bool) -> StreamPlace
-    requires { ⌜ (block ≤ 2 ^ 48) × (first ≤ 255) ⌝ }
-    ensures { λ r. ⌜ r .0 ≡ dssStart block first swap ⌝ }
+// Where the frames of a DSS block start, by its number, its byte 1 and its flag. No file has 2^48 blocks.
+pub fn dss_start(block: usize, byte1: usize, swap: bool) -> StreamPlace
+    requires { ⌜ (block ≤ 2 ^ 48) × (byte1 ≤ 255) ⌝ }
+    ensures { λ r. ⌜ r .0 ≡ dssStart block byte1 swap ⌝ }
 {
     let base = PAYLOAD * block;
-    let far = 2 * first + 2 * swap_bit(swap);
+    let far = 2 * byte1 + 2 * swap_bit(swap);
     if far < 6 {
         return StreamPlace(base);
     }
@@ -77,7 +80,8 @@ fn plain(src: &[u8], at: usize) -> [u8; 42]
     bytes
 }
 
-// The 40 bytes of a swapped read, 3 places on: so that a blend of two shifts gives the packet.
+// The 40 bytes of a swapped read, 3 places on, so that a blend of two shifts gives the packet: 52 places, since the blend
+// looks 4 on.
 fn shifted(src: &[u8], at: usize) -> [u8; 52]
     requires { ⌜ at + 40 ≤ length (now src) ⌝ }
     ensures { λ r. ⌜ Shifted (from (bytesOf (now (src .entry))) at) r ⌝ }
@@ -97,7 +101,7 @@ fn either(k: usize, even: u8, odd: u8) -> u8
     if k % 2 == 0 { even } else { odd }
 }
 
-// The swapped bytes in their places; places 1, 40 and those from 42 on are idle.
+// The swapped bytes in their places; places 1, 40 and those from 42 on are idle. 48 places and not 42: whole vectors.
 fn blended(src: &[u8], at: usize) -> [u8; 48]
     requires { ⌜ at + 40 ≤ length (now src) ⌝ }
     ensures { λ r. ⌜ Blended (from (bytesOf (now (src .entry))) at) r ⌝ }
@@ -176,21 +180,21 @@ fn seam(file: &[u8], a: FilePlace, blocks: usize, q: StreamPlace) -> [u8; 42]
         return window;
     }
     let here = blocks::in_file(a, q);
-    let first = here.0;
+    let index = here.0;
     let n = tables::lesser(PAYLOAD - at % PAYLOAD, 42);
-    take_run(&mut window, 0, file, first, n);
+    take_run(&mut window, 0, file, index, n);
     let next = block + 1;
     if blocks <= next {
         return window;
     }
     let there = blocks::in_file(a, StreamPlace(PAYLOAD * next));
-    let second = there.0;
+    let index2 = there.0;
     let m = 42 - n;
-    take_run(&mut window, n, file, second, m);
+    take_run(&mut window, n, file, index2, m);
     window
 }
 
-// The packet that a read at q gives.
+// The packet that a read at q gives. No walk comes near 2^62: each of at most 255 packets a block takes 42 bytes.
 pub fn read_packet(
     file: &[u8],
     a: FilePlace,
@@ -205,11 +209,11 @@ pub fn read_packet(
     let at = q.0;
     let next = at + read_size(swap);
     if at / PAYLOAD < blocks {
-        if at % PAYLOAD <= 464 {
+        if at % PAYLOAD <= LAST_INSIDE {
             let here = blocks::in_file(a, q);
-            let first = here.0;
-            let bytes = packet_bytes(file, first, swap, carry);
-            let after = carry_after(file, first, swap, carry);
+            let index = here.0;
+            let bytes = packet_bytes(file, index, swap, carry);
+            let after = carry_after(file, index, swap, carry);
             let size = read_size(swap);
             return Packet {
                 bytes,

@@ -1,3 +1,2 @@
 -- The laws and theorems that belong to no one function. They rest on the definitions in specs/.
-pub mod Back
 pub mod Said

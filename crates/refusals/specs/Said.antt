@@ -3,7 +3,6 @@
 use Prim.Native.Nat.{ℕ}
 use mathlib.Core.Bool.{Bool, true, false}
 use Rattle.refusals.specs.declared.Refusal.{Refusal}
-use Rattle.refusals.specs.Numbers.{numbersOf}
 
 pub data Said (A : Type 0) : Type 0 where
   answers : A → Said A
@@ -11,7 +10,7 @@ pub data Said (A : Type 0) : Type 0 where
 
 -- a refusal says its two numbers
 abbrev pub refusal : {A : Type 0} → Refusal → Said A
-refusal why = refuses (numbersOf why .0) (numbersOf why .1)
+refusal why = refuses (why .number) (why .beside)
 
 -- go on where the test holds, and refuse with this number and the one beside it where it does not
 abbrev pub demand : {A : Type 0} → Bool → ℕ → ℕ → Said A → Said A

@@ -8,8 +8,8 @@ use borrow.Author.Needs.{needs}
 use Rattle.detect.proofs.ds2.detect_ds2_audio_start.Statement.{statement}
 use Rattle.detect.proofs.ds2.detect_ds2_audio_start.Tie as tie
 
-byte-or-zero-requires : tie.Need-byte-or-zero-requires
-byte-or-zero-requires c κs = search needs
+first-byte-requires : tie.Need-first-byte-requires
+first-byte-requires c κs = search needs
 
 scan-requires : tie.Need-scan-requires
 scan-requires c κs = search needs
@@ -18,13 +18,13 @@ returns : tie.Need-returns
 unfolding audioStart
 returns c =
     let t = c .before in
-    simp (eq-eqb _ _ (told (t .before .byte-or-zero .ensures) (t .if1 .taken)), c .scan .ensures)
+    simp (eq-eqb _ _ (told (t .before .first-byte .ensures) (t .if1 .taken)), c .scan .ensures)
 
 returns-2 : tie.Need-returns-2
 unfolding audioStart
 returns-2 c =
-    simp (ne-eqb _ _ (λ e. c .if1 .left (c .before .byte-or-zero .ensures ∙ e)))
+    simp (ne-eqb _ _ (λ e. c .if1 .left (c .before .first-byte .ensures ∙ e)))
 
 pub detect-ds2-audio-start-spec : {M : Type 1} → statement M
 detect-ds2-audio-start-spec =
-    tie.close (tie.spec byte-or-zero-requires scan-requires returns returns-2)
+    tie.close (tie.spec first-byte-requires scan-requires returns returns-2)

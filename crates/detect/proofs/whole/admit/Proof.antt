@@ -1,7 +1,7 @@
 -- `detect::whole::admit` meets its contract: by the magic, each arm being that case of the definition.
 -- Assumes nothing.
 use Prim.Native.Nat.{ℕ}
-use mathlib.Core.Path.{refl, ap, _∙_}
+use mathlib.Core.Path.{ap, _∙_}
 use denote.Ref.{now}
 use Rattle.refusals.specs.Said.{demand}
 use Rattle.detect.specs.Admissions.{admissionAt}
@@ -34,11 +34,20 @@ admit-at-requires-2 c κs = search needs
 enum-told-3 : tie.Need-enum-told-3
 enum-told-3 c = search needs
 
+magic-requires : tie.Need-magic-requires
+magic-requires c κs = search needs
+
 enum-told-4 : tie.Need-enum-told-4
 enum-told-4 c = search needs
 
+magic-requires-2 : tie.Need-magic-requires-2
+magic-requires-2 c κs = search needs
+
 enum-told-5 : tie.Need-enum-told-5
 enum-told-5 c = search needs
+
+magic-requires-3 : tie.Need-magic-requires-3
+magic-requires-3 c κs = search needs
 
 returns : tie.Need-returns
 returns c =
@@ -55,13 +64,13 @@ returns-2 c =
     (c .admit-at2 .ensures ∙ ap (λ (n : ℕ). demand (a .ds2) 1 0 (admissionAt (now (a .file)) n)) (c .before .detect-ds2-audio-start .ensures))
 
 returns-3 : tie.Need-returns-3
-returns-3 c = admission-as _ _ _ (c .before .before .magic-of .ensures) (c .enum-told3 .given .1) refl
+returns-3 c = admission-as _ _ _ (c .before .before .before .magic-of .ensures) (c .before .enum-told3 .given .1) (rw (c .magic .ensures))
 
 returns-4 : tie.Need-returns-4
-returns-4 c = admission-as _ _ _ (c .before .before .magic-of .ensures) (c .enum-told4 .given .1) refl
+returns-4 c = admission-as _ _ _ (c .before .before .before .magic-of .ensures) (c .before .enum-told4 .given .1) (rw (c .magic2 .ensures))
 
 returns-5 : tie.Need-returns-5
-returns-5 c = admission-as _ _ _ (c .before .before .magic-of .ensures) (c .enum-told5 .given .1) refl
+returns-5 c = admission-as _ _ _ (c .before .before .before .magic-of .ensures) (c .before .enum-told5 .given .1) (rw (c .magic3 .ensures))
 
 pub admit-spec : {M : Type 1} → statement M
 admit-spec =
@@ -75,8 +84,11 @@ admit-spec =
     detect-ds2-audio-start-requires
     admit-at-requires-2
     enum-told-3
+    magic-requires
     enum-told-4
+    magic-requires-2
     enum-told-5
+    magic-requires-3
     returns
     returns-2
     returns-3

@@ -25,11 +25,15 @@ enum-known-admission c = search needs
 enum-known-admission-2 : tie.Need-enum-known-admission-2
 enum-known-admission-2 c = search needs
 
+absent-requires : tie.Need-absent-requires
+absent-requires c κs = search needs
+
 returns : tie.Need-returns
 returns c =
-    let k = c .before .before in
+    let t = c .before in
+    let k = t .before .before in
     let a = k .before .before .before .before .before .args in
-    place-absent (now (a .file)) (a .block) _ (taken k) (c .if1 .taken)
+    rw (c .absent .ensures) (place-absent (now (a .file)) (a .block) _ (taken k) (t .if1 .taken))
 
 mul-t12 : tie.Need-mul-t12
 mul-t12 c =
@@ -62,6 +66,7 @@ payload-place-spec =
     admit-requires
     enum-known-admission
     enum-known-admission-2
+    absent-requires
     returns
     mul-t12
     in-file-requires

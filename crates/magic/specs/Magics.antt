@@ -5,8 +5,8 @@ use mathlib.Core.List.{List}
 use mathlib.Core.Bool.{Bool, cond, _&&_, _||_}
 use lib.ListN.{getD, length}
 use lib.Dec.{ltb, eqb}
-use Rattle.detect.specs.declared.Magic.{Magic}
-use Rattle.detect.specs.declared.Magic.the-variants.{Dss, Ds2, Encrypted, Grundig, Other}
+use Rattle.magic.specs.declared.Magic.{Magic}
+use Rattle.magic.specs.declared.Magic.the-variants.{Dss, Ds2, Encrypted, Grundig, Other}
 
 -- bytes 1 to 3 of the file
 unfoldable pub spells : List ℕ → ℕ → ℕ → ℕ → Bool
@@ -24,6 +24,7 @@ ds2By first = cond (eqb first 1 || eqb first 3 || eqb first 7) Ds2 Other
 unfoldable pub encBy : ℕ → Magic
 encBy first = cond (eqb first 3) Encrypted Other
 
+-- what the first four bytes say; under 4 bytes say nothing
 unfoldable pub magicOf : List ℕ → Magic
 magicOf f =
     cond (ltb (length f) 4) Other

@@ -1,9 +1,9 @@
--- `detect::enc_by` meets its contract: by the test.
+-- `magic::enc_by` meets its contract: by the test.
 -- Assumes nothing.
-use Rattle.detect.specs.Magics.{encBy}
+use Rattle.magic.specs.Magics.{encBy}
 use borrow.Author.Tests.{eq-eqb, ne-eqb}
-use Rattle.detect.proofs.enc_by.Statement.{statement}
-use Rattle.detect.proofs.enc_by.Tie as tie
+use Rattle.magic.proofs.enc_by.Statement.{statement}
+use Rattle.magic.proofs.enc_by.Tie as tie
 
 returns : tie.Need-returns
 unfolding encBy

@@ -1,13 +1,13 @@
--- `detect::is_spelt` meets its contract: one byte that differs decides, and the last where the others agree.
+-- `magic::is_spelt` meets its contract: one byte that differs decides, and the last where the others agree.
 -- Assumes nothing.
 use mathlib.Core.Path.{refl}
 use borrow.Author.Tests.{eq-eqb, ne-eqb}
 use mathlib.Core.Bool.{and-false}
 use Rattle.tables.proofs.Tests.{both, last-of-all}
-use Rattle.detect.specs.Magics.{spells}
+use Rattle.magic.specs.Magics.{spells}
 use borrow.Author.Needs.{needs}
-use Rattle.detect.proofs.is_spelt.Statement.{statement}
-use Rattle.detect.proofs.is_spelt.Tie as tie
+use Rattle.magic.proofs.is_spelt.Statement.{statement}
+use Rattle.magic.proofs.is_spelt.Tie as tie
 
 shared-slice-read-if1 : tie.Need-shared-slice-read-if1
 shared-slice-read-if1 c = search needs

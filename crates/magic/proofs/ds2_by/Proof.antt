@@ -1,9 +1,9 @@
--- `detect::ds2_by` meets its contract: by the tests in their order.
+-- `magic::ds2_by` meets its contract: by the tests in their order.
 -- Assumes nothing.
-use Rattle.detect.specs.Magics.{ds2By}
+use Rattle.magic.specs.Magics.{ds2By}
 use borrow.Author.Tests.{eq-eqb, ne-eqb}
-use Rattle.detect.proofs.ds2_by.Statement.{statement}
-use Rattle.detect.proofs.ds2_by.Tie as tie
+use Rattle.magic.proofs.ds2_by.Statement.{statement}
+use Rattle.magic.proofs.ds2_by.Tie as tie
 
 returns : tie.Need-returns
 unfolding ds2By

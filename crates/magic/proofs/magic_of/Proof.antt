@@ -1,11 +1,11 @@
--- `detect::magic_of` meets its contract: by the length and the three names in their order.
+-- `magic::magic_of` meets its contract: by the length and the three names in their order.
 -- Assumes nothing.
 use borrow.Author.Tests.{lt-ltb, le-ltb}
 use Rattle.tables.proofs.Tests.{told}
-use Rattle.detect.specs.Magics.{magicOf}
+use Rattle.magic.specs.Magics.{magicOf}
 use borrow.Author.Needs.{needs}
-use Rattle.detect.proofs.magic_of.Statement.{statement}
-use Rattle.detect.proofs.magic_of.Tie as tie
+use Rattle.magic.proofs.magic_of.Statement.{statement}
+use Rattle.magic.proofs.magic_of.Tie as tie
 
 returns : tie.Need-returns
 unfolding magicOf

@@ -1,10 +1,10 @@
--- `detect::byte_or_zero` meets its contract: past a list's end its default stands.
+-- `magic::first_byte` meets its contract: past a list's end its default stands.
 -- Assumes nothing.
 use mathlib.Core.Path.{sym}
 use lib.ListN.{List·getD-eq-default}
 use borrow.Author.Needs.{needs}
-use Rattle.detect.proofs.byte_or_zero.Statement.{statement}
-use Rattle.detect.proofs.byte_or_zero.Tie as tie
+use Rattle.magic.proofs.first_byte.Statement.{statement}
+use Rattle.magic.proofs.first_byte.Tie as tie
 
 shared-slice-read-result : tie.Need-shared-slice-read-result
 shared-slice-read-result c = search needs
@@ -15,5 +15,5 @@ returns c = search needs
 returns-2 : tie.Need-returns-2
 returns-2 c = sym (List·getD-eq-default (c .before .args .file .now) 0 (c .if1 .left))
 
-pub byte-or-zero-spec : {M : Type 1} → statement M
-byte-or-zero-spec = tie.close (tie.spec shared-slice-read-result returns returns-2)
+pub first-byte-spec : {M : Type 1} → statement M
+first-byte-spec = tie.close (tie.spec shared-slice-read-result returns returns-2)

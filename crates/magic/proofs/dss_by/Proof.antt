@@ -1,9 +1,9 @@
--- `detect::dss_by` meets its contract: by the tests in their order.
+-- `magic::dss_by` meets its contract: by the tests in their order.
 -- Assumes nothing.
-use Rattle.detect.specs.Magics.{dssBy}
+use Rattle.magic.specs.Magics.{dssBy}
 use borrow.Author.Tests.{eq-eqb, ne-eqb}
-use Rattle.detect.proofs.dss_by.Statement.{statement}
-use Rattle.detect.proofs.dss_by.Tie as tie
+use Rattle.magic.proofs.dss_by.Statement.{statement}
+use Rattle.magic.proofs.dss_by.Tie as tie
 
 returns : tie.Need-returns
 unfolding dssBy
