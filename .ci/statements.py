@@ -1,33 +1,54 @@
-"""statements.py FILE: FILE's table rows name theorems as `name` in `crates/..`: each must be declared in that file. Prints how many were found."""
+"""statements.py FILE: holds FILE, docs/STATEMENTS.md, against the tree.
+
+Under each heading that begins with a number, every row of the table names at least one declaration, as `name` in `file`, and each
+stands there: a theorem or definition that is `pub`, or a function that has an `ensures`. Under the last heading every edit of
+crates/*/must-fail is named, as `crate/edit`, and no other. Prints how many were found, and what was not.
+"""
+import glob
 import re
 import sys
 
 NAMED = re.compile(r"`([^`]+)` in `(crates/[^`]+)`")
+EDIT = re.compile(r"`([a-z0-9_]+/[a-z0-9_]+)`")
 
 
-def declared(name: str, text: str) -> bool:
-    plain = re.escape(name)
-    antt = rf"^\s*(?:(?:unfoldable|abbrev|pub) )*(?:record |data )?{plain}(?: \{{[^}}]*\}})?(?: :| \()"
-    rattle = rf"^\s*(?:pub )?(?:extern \"C\" )?(?:fn|struct|enum|const) {plain}\b"
-    return bool(re.search(antt, text, re.M) or re.search(rattle, text, re.M))
+def declared(name: str, path: str) -> bool:
+    try:
+        with open(path, encoding="utf-8") as file:
+            text = file.read()
+    except OSError:
+        return False
+    if path.endswith(".rt"):
+        found = re.search(rf"^ *pub fn {re.escape(name)}\b[^{{]*?\n *(requires|ensures) ", text, re.M)
+        return bool(found and "ensures" in text[found.start():].split("\n{", 1)[0].split("\n    {", 1)[0])
+    marks = r"^ *(?:(?:unfoldable|abbrev) )*pub (?:record |data )?"
+    return bool(re.search(marks + re.escape(name) + r"(?: \{[^}]*\})?(?: :| \()", text, re.M))
 
 
 def main() -> int:
-    found, wrong = 0, 0
     with open(sys.argv[1], encoding="utf-8") as file:
-        rows = NAMED.findall(file.read())
-    for name, path in rows:
-        try:
-            with open(path, encoding="utf-8") as file:
-                there = declared(name, file.read())
-        except OSError:
-            there = False
-        if there:
-            found += 1
+        sections = re.split(r"^## ", file.read(), flags=re.M)[1:]
+    found, wrong, named_edits = 0, [], set()
+    for section in sections:
+        rows = [row for row in section.split("\n") if row.startswith("|")][2:]
+        if section[0].isdigit():
+            for row in rows:
+                names = NAMED.findall(row)
+                if not names:
+                    wrong.append(f"a row that names nothing: {row[:60]}")
+                for name, path in names:
+                    if declared(name, path):
+                        found += 1
+                    else:
+                        wrong.append(f"no {name} in {path}")
         else:
-            wrong += 1
-            print(f"statements: no {name} in {path}")
-    print(f"statements: {found} named and found, {wrong} not")
+            named_edits.update(EDIT.findall("\n".join(rows)))
+    edits = {f"{path.split('/')[1]}/{path.split('/')[3][:-5]}" for path in glob.glob("crates/*/must-fail/*.edit")}
+    wrong += [f"an edit that is not named: {edit}" for edit in sorted(edits - named_edits)]
+    wrong += [f"no edit {edit}" for edit in sorted(named_edits - edits)]
+    for line in wrong:
+        print(f"statements: {line}")
+    print(f"statements: {found} declarations and {len(edits)} edits, {len(wrong)} wrong")
     return 1 if wrong or not found else 0
 
 

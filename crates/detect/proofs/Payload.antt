@@ -1,18 +1,21 @@
 -- The ways of a payload request, and what each shows.
 -- Assumes nothing.
-use Prim.Native.Nat.{ℕ, _+_, _*_, _≤_, _<_}
+use Prim.Native.Nat.{suc, ℕ, _+_, _*_, _≤_, _<_}
 use mathlib.Core.Path.{_≡_, sym}
 use mathlib.Core.List.{List}
 use mathlib.Core.Bool.{true}
 use native.Mathlib.Omega.{arith}
-use borrow.Author.Tests.{lt-ltb, le-ltb}
-use lib.ListN.{take, drop}
+use borrow.Author.Tests.{lt-ltb, le-ltb, ltb-true}
+use lib.ListN.{take, drop, length}
+use lib.Dec.{ltb}
+use Rattle.refusals.proofs.Said.{went-on, passed}
+use Rattle.blocks.proofs.Stream.{payload-long}
 use Rattle.blocks.specs.Places.{Whole, fileOf, payloadOf}
 use Rattle.refusals.specs.Said.{answers, refuses}
 use Rattle.detect.specs.declared.Recording.{Recording}
 use Rattle.detect.specs.Admissions.{admission}
 use Rattle.detect.proofs.Admissions.{sound}
-use Rattle.detect.specs.Payload.{payloadPlace, payloadShown}
+use Rattle.detect.specs.Payload.{payloadPlace, payloadShown, placeIn}
 
 -- the ways of a request
 module _ (f : List ℕ) (block : ℕ) where
@@ -42,3 +45,13 @@ module _ (f : List ℕ) (block : ℕ) where
   pub shown-none : {number beside : ℕ} → refuses number beside ≡ payloadPlace f block → take 0 (drop 0 f) ≡ payloadShown f block
   unfolding payloadShown
   shown-none e = rw (← e)
+
+-- a request that is answered shows 506 bytes
+pub shows-506 : (f : List ℕ) (block place : ℕ) → payloadPlace f block ≡ answers place → length (payloadShown f block) ≡ 506
+unfolding payloadPlace
+shows-506 f block place e =
+    let w = went-on (admission f true true) (λ rec. placeIn rec block) e in
+    let test = passed (ltb block (w .0 .blocks)) 12 0 (answers (fileOf (w .0 .start .0) (506 * block))) (w .2) in
+    let there : block < w .0 .blocks = ltb-true block (w .0 .blocks) (test .0) in
+    let whole : Whole f (w .0 .start .0) (suc block) = omega (arith, block-there f block (w .0) (sym (w .1)) there) in
+    rw (← shown-part f block (w .0) (sym (w .1)) there) (payload-long f (w .0 .start .0) block whole)

@@ -1,25 +1,42 @@
 -- The rules of detection in their own words, as theorems about the definitions: which candidate the scan takes, and which block gives
--- the type. The first three are every case of a scan, the last two every case of a type. Assumes nothing.
+-- the type. `Taken` and `Typed` are the rules, case by case, and the theorems say that every file is one of the cases. Assumes nothing.
 use Prim.Native.Nat.{ℕ, zero, suc, _+_, _*_, _-_, _/_, _≤_, _<_, min}
 use mathlib.Core.Path.{_≡_, refl, sym, ap, _∙_}
 use mathlib.Core.List.{List}
+use mathlib.Core.Logic.{⊎-elim}
 use native.Mathlib.Nat.{not-suc-le-zero}
 use native.Mathlib.Omega.{arith}
 use lib.ListN.{length}
 use Rattle.tables.proofs.Cases.{by-order}
+use Rattle.tables.proofs.Search.{First, Top, first-or-none, top-one}
 use Rattle.blocks.specs.Places.{wholeBlocks}
 use Rattle.blocks.specs.Headers.{countOf, typeOf}
 use Rattle.detect.specs.Start.{score, scan, scanned}
-use Rattle.detect.proofs.Start.{scan-none, scan-four, scan-better, scan-worse}
 use Rattle.detect.specs.Kinds.{firstType, formatType}
+use Rattle.detect.proofs.Start.{scan-none, scan-four, scan-better, scan-worse}
 use Rattle.detect.proofs.Types.{type-none, type-here, type-later}
 
--- how many candidates there are, and candidate number j
+-- how many candidates there are, candidate number j, and its score
 abbrev pub candidates : List ℕ → ℕ
 candidates f = min 0x10000 (length f - 6) / 512
 
 abbrev pub candidate : ℕ → ℕ
 candidate j = 512 + 512 * j
+
+abbrev pub scoreOf : List ℕ → ℕ → ℕ
+scoreOf f j = score f (candidate j)
+
+-- the scan stops at the first place with four good headers; else the best score wins, the earliest on a tie; with none, 0x1000
+pub data Taken (f : List ℕ) (a : ℕ) : Type 0 where
+  first-with-four : (j : ℕ) → First (scoreOf f) 4 (candidates f) j → a ≡ candidate j → Taken f a
+  best-score : (j : ℕ) → ((i : ℕ) → i < candidates f → scoreOf f i < 4) → Top (scoreOf f) (candidates f) j → 0 < scoreOf f j
+      → a ≡ candidate j → Taken f a
+  none-good : ((i : ℕ) → i < candidates f → scoreOf f i ≤ 0) → a ≡ 0x1000 → Taken f a
+
+-- byte 4 of the first whole block with byte 2 above 0, else 0
+pub data Typed (f : List ℕ) (a t : ℕ) : Type 0 where
+  first-announcing : (b : ℕ) → First (countOf f a) 1 (wholeBlocks (length f) a) b → t ≡ typeOf f a b → Typed f a t
+  all-silent : ((i : ℕ) → i < wholeBlocks (length f) a → countOf f a i < 1) → t ≡ 0 → Typed f a t
 
 module _ (f : List ℕ) where
   at-next : (p i : ℕ) → score f (p + 512 * suc i) ≡ score f (p + 512 + 512 * i)
@@ -77,23 +94,28 @@ module _ (f : List ℕ) where
       (λ l. later p (score f p) (omega (arith, first 0 (omega arith), at-first p, at-next p j)))
       (λ l. later best most (omega (arith, more, at-next p j)))
 
-  -- the scan stops at the first place with four good headers
-  pub first-with-four : (j : ℕ) → j < candidates f → 4 ≤ score f (candidate j) → ((i : ℕ) → i < j → score f (candidate i) < 4)
-      → scanned f ≡ candidate j
+  pub scan-takes : Taken f (scanned f)
   unfolding scanned
-  first-with-four j h four few = stops (candidates f) 512 0x1000 0 j h four few
+  scan-takes =
+      ⊎-elim (λ w. first-with-four (w .0) (w .1) (stops (candidates f) 512 0x1000 0 (w .0) (w .1 .inside) (w .1 .enough) (w .1 .before)))
+      (λ few. by-order 0 (candidates f) (some few) (λ h. silence few (λ i l. omega arith)))
+      (first-or-none (scoreOf f) 4 (candidates f))
+    where
+      silence : ((i : ℕ) → i < candidates f → scoreOf f i < 4) → ((i : ℕ) → i < candidates f → scoreOf f i ≤ 0)
+          → Taken f (scan f (candidates f) 512 0x1000 0)
+      silence few all = none-good all (keeps (candidates f) 512 0x1000 0 few all)
 
-  -- else the best score wins, the earliest on a tie
-  pub best-wins : (j : ℕ) → j < candidates f → ((i : ℕ) → i < candidates f → score f (candidate i) < 4) → 0 < score f (candidate j)
-      → ((i : ℕ) → i < j → score f (candidate i) < score f (candidate j))
-      → ((i : ℕ) → i < candidates f → score f (candidate i) ≤ score f (candidate j)) → scanned f ≡ candidate j
-  unfolding scanned
-  best-wins j h few some first best-of = takes (candidates f) 512 0x1000 0 j h few some first best-of
-
-  -- with none good, the start is 0x1000
-  pub none-good : ((i : ℕ) → i < candidates f → score f (candidate i) ≤ 0) → scanned f ≡ 0x1000
-  unfolding scanned
-  none-good none = keeps (candidates f) 512 0x1000 0 (λ i h. omega (arith, none i h)) none
+      some : ((i : ℕ) → i < candidates f → scoreOf f i < 4) → 0 < candidates f → Taken f (scan f (candidates f) 512 0x1000 0)
+      some few h =
+          let k : ℕ = candidates f - 1 in
+          let more : suc k ≡ candidates f = omega arith in
+          let w = top-one (scoreOf f) k in
+          let top : Top (scoreOf f) (candidates f) (w .0) = rw more at (w .1) in
+          by-order 0 (scoreOf f (w .0))
+          (λ l.
+          best-score (w .0) few top l
+          (takes (candidates f) 512 0x1000 0 (w .0) (top .inside) few l (top .before) (top .all)))
+          (λ l. silence few (λ i s. omega (arith, top .all i s)))
 
   module _ (a : ℕ) where
     from-first : (n b k : ℕ) → k < n → 1 ≤ countOf f a (b + k) → ((i : ℕ) → i < k → countOf f a (b + i) ≤ 0)
@@ -110,24 +132,24 @@ module _ (f : List ℕ) where
         (λ i l. let s : b + suc i ≡ b + 1 + i = omega arith in rw s at (silent (suc i) (omega arith)))
         ∙ ap (typeOf f a) (sym e)
 
-    -- the type is byte 4 of the first whole block with byte 2 above 0
-    pub type-of-first : (b : ℕ) → b < wholeBlocks (length f) a → 1 ≤ countOf f a b → ((i : ℕ) → i < b → countOf f a i ≤ 0)
-        → formatType f a ≡ typeOf f a b
-    unfolding formatType
-    type-of-first b h some silent =
-        let e : 0 + b ≡ b = omega arith in
-        from-first (wholeBlocks (length f) a) 0 b h (rw (← e) at some)
-        (λ i l. let s : 0 + i ≡ i = omega arith in rw (← s) at (silent i l))
-        ∙ ap (typeOf f a) e
+    from-silence : (n b : ℕ) → ((i : ℕ) → i < n → countOf f a (b + i) ≤ 0) → firstType f a n b ≡ 0
+    from-silence zero b s = type-none f a 0 b refl
+    from-silence (suc n) b s =
+        let z : b + 0 ≡ b = omega arith in
+        type-later f a (suc n) b n refl (rw z at (s 0 (omega arith)))
+        ∙ from-silence n (b + 1) (λ i l. let e : b + suc i ≡ b + 1 + i = omega arith in rw e at (s (suc i) (omega arith)))
 
-    -- else 0
-    pub type-of-silence : ((i : ℕ) → i < wholeBlocks (length f) a → countOf f a i ≤ 0) → formatType f a ≡ 0
+    pub type-takes : Typed f a (formatType f a)
     unfolding formatType
-    type-of-silence silent = from-silence (wholeBlocks (length f) a) 0 (λ i h. let s : 0 + i ≡ i = omega arith in rw (← s) at (silent i h))
-      where
-        from-silence : (n b : ℕ) → ((i : ℕ) → i < n → countOf f a (b + i) ≤ 0) → firstType f a n b ≡ 0
-        from-silence zero b s = type-none f a 0 b refl
-        from-silence (suc n) b s =
-            let z : b + 0 ≡ b = omega arith in
-            type-later f a (suc n) b n refl (rw z at (s 0 (omega arith)))
-            ∙ from-silence n (b + 1) (λ i l. let e : b + suc i ≡ b + 1 + i = omega arith in rw e at (s (suc i) (omega arith)))
+    type-takes =
+        ⊎-elim
+        (λ w.
+        let e : 0 + w .0 ≡ w .0 = omega arith in
+        first-announcing (w .0) (w .1)
+        (from-first (wholeBlocks (length f) a) 0 (w .0) (w .1 .inside) (rw (← e) at (w .1 .enough))
+        (λ i l. let z : 0 + i ≡ i = omega arith in rw z (omega (arith, w .1 .before i l)))
+        ∙ ap (typeOf f a) e))
+        (λ few.
+        all-silent few
+        (from-silence (wholeBlocks (length f) a) 0 (λ i l. let z : 0 + i ≡ i = omega arith in rw z (omega (arith, few i l)))))
+        (first-or-none (countOf f a) 1 (wholeBlocks (length f) a))

@@ -12,7 +12,9 @@ use Rattle.magic.specs.declared.Magic.the-variants.{Dss, Ds2, Encrypted, Grundi
 use Rattle.detect.specs.declared.Recording.{Recording}
 use Rattle.detect.specs.declared.Admission.{Admission}
 use Rattle.detect.specs.declared.Admission.the-variants.{Admitted, Refused}
+use Rattle.blocks.specs.Headers.{announcedIn}
 use Rattle.detect.specs.Start.{audioStart}
+use Rattle.detect.specs.Kinds.{formatType}
 use Rattle.magic.specs.Magics.{magicOf}
 
 -- the recording whose audio starts at a
@@ -40,3 +42,10 @@ admission f dss ds2 = admissionBy (magicOf f) f dss ds2
 abbrev pub admissionSays : Admission → Said Recording
 admissionSays (Admitted rec) = answers rec
 admissionSays (Refused why) = refusal why
+
+-- what a whole reading asks of a recording then: the type of a DS2 recording, and how many frames it announces
+abbrev pub typeIn : List ℕ → Recording → ℕ
+typeIn f rec = formatType f (rec .start .0)
+
+abbrev pub announcedBy : List ℕ → Recording → ℕ
+announcedBy f rec = announcedIn f (rec .start .0) (rec .blocks)

@@ -11,10 +11,11 @@ use blocks::StreamPlace;
 use magic::Magic;
 use refusals::Refusal;
 ghost use mathlib.Core.Path.{_≡_};
-ghost use Prim.Native.Nat.{_*_};
+ghost use Prim.Native.Nat.{_*_, _≤_};
 ghost use lib.ListN.{getD};
+ghost use Rattle.blocks.specs.Places.{Whole};
 ghost use Rattle.refusals.specs.Said.{demand};
-ghost use Rattle.detect.specs.Admissions.{admissionAt, admission, admissionSays};
+ghost use Rattle.detect.specs.Admissions.{admissionAt, admission, admissionSays, typeIn, announcedBy};
 ghost use Rattle.detect.specs.Payload.{payloadPlace, payloadSays, payloadShown};
 
 // A file whose audio starts there: the magic is one that the call takes, the limit, the header whole.
@@ -53,6 +54,26 @@ pub fn admit(file: &[u8], dss: bool, ds2: bool) -> Admission
         Magic::Encrypted => Admission::Refused(Refusal::magic()),
         Magic::Grundig => Admission::Refused(Refusal::magic()),
         Magic::Other => Admission::Refused(Refusal::magic()),
+    }
+}
+
+impl Recording {
+    // For the crates above. The type of a DS2 recording.
+    pub fn format_type(self, file: &[u8]) -> u8
+        ensures { λ r. ⌜ r ≡ typeIn (now (file .entry)) self ⌝ }
+    {
+        let start = self.start;
+        crate::ds2::detect_ds2_format_type(file, start)
+    }
+
+    // For the crates above. How many frames the recording announces.
+    pub fn announced(self, file: &[u8]) -> usize
+        requires { ⌜ Whole (now file) (self .start .0) (self .blocks) ⌝ }
+        ensures { λ r. ⌜ (r ≡ announcedBy (now (file .entry)) self) × (r ≤ 255 * self .blocks) ⌝ }
+    {
+        let start = self.start;
+        let blocks = self.blocks;
+        blocks::announced(file, start, blocks)
     }
 }
 

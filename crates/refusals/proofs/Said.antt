@@ -4,7 +4,7 @@ use Prim.Native.Nat.{ℕ}
 use mathlib.Core.Path.{_≡_, refl, sym, ap, _∙_}
 use mathlib.Core.Bool.{Bool, true, false}
 use native.Mathlib.Omega.{arith}
-use Rattle.refusals.specs.Said.{Said, demand, answers, refuses}
+use Rattle.refusals.specs.Said.{Said, demand, answers, refuses, onward}
 
 -- a call that refuses does not answer
 pub not-both : {A : Type 0} {a : A} {number beside : ℕ} → refuses number beside ≡ answers a → ⊥
@@ -20,3 +20,9 @@ passed false number beside rest e = absurd (not-both e)
 pub only-one : {E A : Type 0} (says : E → Said A) (read : Said A → E) → ((x : E) → read (says x) ≡ x)
     → (x y : E) (said : Said A) → says x ≡ said → says y ≡ said → x ≡ y
 only-one says read back x y said p q = sym (back x) ∙ ap read (p ∙ sym q) ∙ back y
+
+-- what was answered in the end was first answered, and then gone on with
+pub went-on : {A B : Type 0} {b : B} (said : Said A) (rest : A → Said B) → onward said rest ≡ answers b
+    → (a : A) × (said ≡ answers a) × (rest a ≡ answers b)
+went-on (answers a) rest e = (a, refl, e)
+went-on (refuses number beside) rest e = absurd (not-both e)

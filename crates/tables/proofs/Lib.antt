@@ -4,3 +4,4 @@ pub mod Lent
 pub mod Parts
 pub mod Table
 pub mod Tests
+pub mod Search
