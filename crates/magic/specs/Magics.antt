@@ -24,7 +24,7 @@ ds2By first = cond (eqb first 1 || eqb first 3 || eqb first 7) Ds2 Other
 unfoldable pub encBy : ℕ → Magic
 encBy first = cond (eqb first 3) Encrypted Other
 
--- what the first four bytes say; under 4 bytes say nothing
+-- what the first four bytes say; under 4 bytes say nothing. `dss` is 100, 115, 115, `ds2` is 100, 115, 50, `enc` is 101, 110, 99
 unfoldable pub magicOf : List ℕ → Magic
 magicOf f =
     cond (ltb (length f) 4) Other
