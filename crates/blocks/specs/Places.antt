@@ -6,6 +6,10 @@ use mathlib.Core.Bool.{cond}
 use lib.ListN.{getD, length, take, drop}
 use lib.Dec.{ltb}
 
+-- the most bytes that a file, or all pieces of one, may have
+abbrev pub limit : ℕ
+limit = 268435456
+
 -- how many whole blocks a file of so many bytes has after a
 abbrev pub wholeBlocks : ℕ → ℕ → ℕ
 wholeBlocks long a = (long - a) / 512

@@ -1,7 +1,7 @@
 -- The ways of an admission, and what holds of a recording that was taken.
 -- Assumes nothing.
 use Prim.Native.Nat.{ℕ, _≤_, _<_}
-use mathlib.Core.Path.{_≡_, refl, ap, _∙_, subst}
+use mathlib.Core.Path.{_≡_, refl, ap, _∙_, subst, sym}
 use mathlib.Core.List.{List}
 use mathlib.Core.Bool.{Bool, true, false}
 use native.Mathlib.Omega.{arith}
@@ -9,7 +9,7 @@ use borrow.Author.Tests.{leb-true, le-leb, lt-leb}
 use lib.ListN.{length}
 use lib.Dec.{leb}
 use Rattle.tables.proofs.Tests.{told}
-use Rattle.blocks.specs.Places.{wholeBlocks, Whole}
+use Rattle.blocks.specs.Places.{limit, wholeBlocks, Whole}
 use Rattle.refusals.specs.Said.{Said, answers, refuses, demand}
 use Rattle.refusals.proofs.Said.{passed, not-both}
 use Rattle.magic.specs.declared.Magic.{Magic}
@@ -23,18 +23,26 @@ module _ (f : List ℕ) (takes : Bool) (a : ℕ) where
   pub refused-1 : takes ≡ false → refuses 1 0 ≡ demand takes 1 0 (admissionAt f a)
   refused-1 h = simp h
 
-  pub refused-2 : takes ≡ true → 268435456 < length f → refuses 2 268435456 ≡ demand takes 1 0 (admissionAt f a)
+  pub refused-2 : takes ≡ true → limit < length f → refuses 2 limit ≡ demand takes 1 0 (admissionAt f a)
   unfolding admissionAt
   refused-2 h l = simp (h, lt-leb _ _ l)
 
-  pub refused-3 : takes ≡ true → length f ≤ 268435456 → length f < a → refuses 3 a ≡ demand takes 1 0 (admissionAt f a)
+  pub refused-3 : takes ≡ true → length f ≤ limit → length f < a → refuses 3 a ≡ demand takes 1 0 (admissionAt f a)
   unfolding admissionAt
   refused-3 h l s = simp (h, le-leb _ _ l, lt-leb _ _ s)
 
-  pub admitted : takes ≡ true → length f ≤ 268435456 → a ≤ length f → (n : ℕ) → n ≡ wholeBlocks (length f) a
+  pub admitted : takes ≡ true → length f ≤ limit → a ≤ length f → (n : ℕ) → n ≡ wholeBlocks (length f) a
       → answers (record { start = record { 0 = a }; blocks = n }) ≡ demand takes 1 0 (admissionAt f a)
   unfolding admissionAt
   admitted h l s n e = simp (h, le-leb _ _ l, le-leb _ _ s, e)
+
+-- a bare header is an empty recording, a cut one is refused
+pub bare-header : (f : List ℕ) (a : ℕ) → length f ≤ limit → length f ≡ a
+    → admissionAt f a ≡ answers (record { start = record { 0 = a }; blocks = 0 })
+bare-header f a few bare = sym (admitted f true a refl few (omega arith) 0 (omega arith))
+
+pub cut-header : (f : List ℕ) (a : ℕ) → length f ≤ limit → length f < a → admissionAt f a ≡ refuses 3 a
+cut-header f a few cut = sym (refused-3 f true a refl few cut)
 
 pub admission-as : {said : Said Recording} (f : List ℕ) (dss ds2 : Bool) {m n : Magic} → m ≡ magicOf f → m ≡ n
     → said ≡ admissionBy n f dss ds2 → said ≡ admission f dss ds2
@@ -45,15 +53,15 @@ admission-as f dss ds2 p q e = e ∙ ap (λ (m : Magic). admissionBy m f dss ds2
 pub record Sound (f : List ℕ) (rec : Recording) : Type 0 where
   pub whole : Whole f (rec .start .0) (rec .blocks)
   pub all : rec .blocks ≡ wholeBlocks (length f) (rec .start .0)
-  pub within : length f ≤ 268435456
+  pub within : length f ≤ limit
 
 sound-at : (f : List ℕ) (a : ℕ) (rec : Recording) → admissionAt f a ≡ answers rec → Sound f rec
 unfolding admissionAt
 sound-at f a rec e =
-    let limit = passed (leb (length f) 268435456) 2 268435456 (demand (leb a (length f)) 3 a (answers (recordingAt f a))) e in
-    let header = passed (leb a (length f)) 3 a (answers (recordingAt f a)) (limit .1) in
+    let under = passed (leb (length f) limit) 2 limit (demand (leb a (length f)) 3 a (answers (recordingAt f a))) e in
+    let header = passed (leb a (length f)) 3 a (answers (recordingAt f a)) (under .1) in
     let there : a ≤ length f = leb-true a (length f) (header .0) in
-    let few : length f ≤ 268435456 = leb-true (length f) 268435456 (limit .0) in
+    let few : length f ≤ limit = leb-true (length f) limit (under .0) in
     let same : recordingAt f a ≡ rec = cc in
     subst (Sound f) same (record { whole = omega arith; all = refl; within = few })
 

@@ -5,7 +5,7 @@ use mathlib.Core.List.{List}
 use mathlib.Core.Bool.{Bool}
 use lib.ListN.{getD, length}
 use lib.Dec.{leb}
-use Rattle.blocks.specs.Places.{wholeBlocks}
+use Rattle.blocks.specs.Places.{limit, wholeBlocks}
 use Rattle.refusals.specs.Said.{Said, answers, refuses, refusal, demand}
 use Rattle.magic.specs.declared.Magic.{Magic}
 use Rattle.magic.specs.declared.Magic.the-variants.{Dss, Ds2, Encrypted, Grundig, Other}
@@ -24,7 +24,7 @@ recordingAt f a = record { start = record { 0 = a }; blocks = wholeBlocks (lengt
 -- the limit, and the header whole
 unfoldable pub admissionAt : List ℕ → ℕ → Said Recording
 admissionAt f a =
-    demand (leb (length f) 268435456) 2 268435456 (demand (leb a (length f)) 3 a (answers (recordingAt f a)))
+    demand (leb (length f) limit) 2 limit (demand (leb a (length f)) 3 a (answers (recordingAt f a)))
 
 -- the magic, for a call that takes DSS files, DS2 files or both. DSS's audio starts at 512 times the first byte
 abbrev pub admissionBy : Magic → List ℕ → Bool → Bool → Said Recording

@@ -1,4 +1,5 @@
-// The audio start and the type of a DS2 file, for any bytes at all. Rests on blocks.
+// The audio start and the type of a DS2 file, for any bytes at all. Rests on blocks, for places and headers, and on magic, for
+// the first byte.
 use crate::Kind;
 use blocks::BLOCK;
 use blocks::FilePlace;
@@ -14,7 +15,7 @@ ghost use Rattle.detect.specs.Kinds.{formatType, kindOf};
 const DS2_HEADER_SIZE: usize = 0x600;
 
 // Where the audio starts if the scan finds no good header.
-const UNSCANNED_START: usize = 0x1000;
+const NONE_GOOD_START: usize = 0x1000;
 
 fn is_good_type(byte: u8) -> bool
     ensures { λ r. ⌜ r ≡ goodType byte ⌝ }
@@ -76,7 +77,7 @@ fn scan(file: &[u8]) -> usize
 {
     let end = scan_end(file.len());
     let mut offset = BLOCK;
-    let mut best = UNSCANNED_START;
+    let mut best = NONE_GOOD_START;
     let mut most: usize = 0;
     'scan: loop {
         if end < offset {

@@ -1,5 +1,5 @@
-// What every whole call asks first, and a block's payload on request. Rests on the rest of this crate,
-// on blocks and on refusals.
+// What every whole call asks first, and a block's payload on request. Rests on the rest of this crate, on blocks, on magic and
+// on refusals.
 use crate::Admission;
 use crate::PayloadAnswer;
 use crate::Recording;

@@ -92,7 +92,7 @@ fn is_read_qp(file: &[u8]) -> bool {
 }
 
 // 1 where a file of this type is reported as SP and read as QP.
-fn is_otherwise(byte: u8) -> usize
+fn one_if_otherwise(byte: u8) -> usize
     ensures { λ r. ⌜ r ≤ 1 ⌝ }
 {
     let file = one_block(byte);
@@ -109,7 +109,7 @@ fn reported_otherwise() -> usize {
     let mut n: usize = 0;
     let mut byte: usize = 8;
     while byte < 256 {
-        n += is_otherwise((byte % 256) as u8);
+        n += one_if_otherwise((byte % 256) as u8);
         byte += 1;
     }
     n

@@ -1,4 +1,5 @@
-// The magic: what a file's first four bytes say. Detection and every whole call go by it. Rests on nothing.
+// The magic: what a file's first four bytes say. Detection and every whole call go by it.
+// Rests on tables, for its proofs.
 ghost use mathlib.Core.Path.{_≡_};
 ghost use Prim.Native.Nat.{_≤_};
 ghost use lib.ListN.{length, getD};

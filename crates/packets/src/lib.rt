@@ -1,5 +1,5 @@
 // SP packets: one read of the payload stream gives one packet. Every function here is for the crates above.
-// Rests on blocks, for places and the stream.
+// Rests on blocks, for places and the stream, and on tables.
 use blocks::FilePlace;
 use blocks::PAYLOAD;
 use blocks::StreamPlace;
@@ -52,7 +52,7 @@ fn swap_bit(swap: bool) -> usize
     if swap { 1 } else { 0 }
 }
 
-// Where the frames of a DSS block start, by its number, its byte 1 and its flag. No file has 2^48 blocks.
+// Where the frames of a DSS block start, by its number, its byte 1 and its flag. A file within the limit has under 2^20 blocks.
 pub fn dss_start(block: usize, byte1: usize, swap: bool) -> StreamPlace
     requires { ⌜ (block ≤ 2 ^ 48) × (byte1 ≤ 255) ⌝ }
     ensures { λ r. ⌜ r .0 ≡ dssStart block byte1 swap ⌝ }
@@ -180,21 +180,22 @@ fn seam(file: &[u8], a: FilePlace, blocks: usize, q: StreamPlace) -> [u8; 42]
         return window;
     }
     let here = blocks::in_file(a, q);
-    let index = here.0;
+    let near = here.0;
     let n = tables::lesser(PAYLOAD - at % PAYLOAD, 42);
-    take_run(&mut window, 0, file, index, n);
+    take_run(&mut window, 0, file, near, n);
     let next = block + 1;
     if blocks <= next {
         return window;
     }
     let there = blocks::in_file(a, StreamPlace(PAYLOAD * next));
-    let index2 = there.0;
+    let far = there.0;
     let m = 42 - n;
-    take_run(&mut window, n, file, index2, m);
+    take_run(&mut window, n, file, far, m);
     window
 }
 
-// The packet that a read at q gives. No walk comes near 2^62: each of at most 255 packets a block takes 42 bytes.
+// The packet that a read at q gives. No walk comes near 2^62: of under 2^20 blocks each
+// announces at most 255 packets, of 42 bytes at most.
 pub fn read_packet(
     file: &[u8],
     a: FilePlace,

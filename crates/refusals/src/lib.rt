@@ -1,5 +1,5 @@
-// Refusal numbers: why a call refuses, as a number and the number beside it. One type and one table for every call of the
-// project. Every function here is for the crates above. Rests on blocks, for the places.
+// Refusal numbers: why a call refuses, as a number and the number beside it. One type for every call of the project, and
+// a function for each cause that is given so far. Every function here is for the crates above. Rests on blocks, for the places.
 use blocks::FilePlace;
 ghost use mathlib.Core.Path.{_≡_};
 ghost use Rattle.refusals.specs.Numbers.{numbered};

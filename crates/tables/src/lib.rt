@@ -1,5 +1,5 @@
-// Numbers of the machine, for the crates above: a byte widened, the lesser of two. The laws of lists
-// that a function writes into stand in specs/. Nothing here knows the format. Rests on nothing.
+// Numbers of the machine, for the crates above: a byte widened, the lesser of two. What a call leaves in a lent buffer is
+// defined in specs/, and its laws are in proofs/. Nothing here knows the format. Rests on nothing.
 ghost use mathlib.Core.Path.{_≡_};
 ghost use Prim.Native.Nat.{_≤_, min};
 

@@ -14,11 +14,11 @@ abbrev μ-loop : tie.MeasureT-loop
 loop-holds : tie.Need-loop-holds Inv-loop μ-loop
 loop-holds c = search needs
 
-cast-is-otherwise : tie.Need-cast-is-otherwise Inv-loop μ-loop
-cast-is-otherwise c = search needs
+cast-one-if-otherwise : tie.Need-cast-one-if-otherwise Inv-loop μ-loop
+cast-one-if-otherwise c = search needs
 
-is-otherwise-requires : tie.Need-is-otherwise-requires Inv-loop μ-loop
-is-otherwise-requires c κs = search needs
+one-if-otherwise-requires : tie.Need-one-if-otherwise-requires Inv-loop μ-loop
+one-if-otherwise-requires c κs = search needs
 
 add-n : tie.Need-add-n Inv-loop μ-loop
 add-n c = search needs
@@ -42,8 +42,8 @@ reported-otherwise-spec =
     Inv-loop
     μ-loop
     loop-holds
-    cast-is-otherwise
-    is-otherwise-requires
+    cast-one-if-otherwise
+    one-if-otherwise-requires
     add-n
     add-byte
     loop-less
