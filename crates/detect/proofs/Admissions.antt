@@ -1,22 +1,28 @@
 -- The ways of an admission, and what holds of a recording that was taken.
 -- Assumes nothing.
-use Prim.Native.Nat.{ℕ, _≤_, _<_}
+use Prim.Native.Nat.{ℕ, _*_, _≤_, _<_}
 use mathlib.Core.Path.{_≡_, refl, ap, _∙_, subst, sym}
 use mathlib.Core.List.{List}
 use mathlib.Core.Bool.{Bool, true, false}
 use native.Mathlib.Omega.{arith}
-use borrow.Author.Tests.{leb-true, le-leb, lt-leb}
-use lib.ListN.{length}
+use borrow.Author.Tests.{leb-true, le-leb, lt-leb, lt-ltb}
+use lib.ListN.{length, getD}
 use lib.Dec.{leb}
+use Rattle.tables.proofs.Cases.{by-order}
 use Rattle.tables.proofs.Tests.{told}
 use Rattle.blocks.specs.Places.{limit, wholeBlocks, Whole}
 use Rattle.refusals.specs.Said.{Said, answers, refuses, demand}
-use Rattle.refusals.proofs.Said.{passed, not-both}
+use Rattle.refusals.proofs.Said.{passed, not-both, went-on}
+use Rattle.detect.specs.declared.Kind.{Kind}
+use Rattle.detect.specs.Kinds.{formatType, kindOf, readAs}
+use Rattle.detect.specs.declared.Kind.the-variants.{Sp}
+use Rattle.detect.proofs.Types.{type-none}
 use Rattle.magic.specs.declared.Magic.{Magic}
 use Rattle.magic.specs.declared.Magic.the-variants.{Dss, Ds2, Encrypted, Grundig, Other}
 use Rattle.detect.specs.declared.Recording.{Recording}
 use Rattle.magic.specs.Magics.{magicOf}
-use Rattle.detect.specs.Admissions.{recordingAt, admissionAt, admissionBy, admission}
+use Rattle.detect.specs.Start.{audioStart}
+use Rattle.detect.specs.Admissions.{recordingAt, admissionAt, admissionBy, admission, typeIn, ofKind, ds2Admission}
 
 -- the ways of an admission
 module _ (f : List ℕ) (takes : Bool) (a : ℕ) where
@@ -55,15 +61,19 @@ pub record Sound (f : List ℕ) (rec : Recording) : Type 0 where
   pub all : rec .blocks ≡ wholeBlocks (length f) (rec .start .0)
   pub within : length f ≤ limit
 
-sound-at : (f : List ℕ) (a : ℕ) (rec : Recording) → admissionAt f a ≡ answers rec → Sound f rec
+-- the recording is the one at the audio start, and its header is whole
+recorded : (f : List ℕ) (a : ℕ) (rec : Recording) → admissionAt f a ≡ answers rec
+    → (recordingAt f a ≡ rec) × (length f ≤ limit) × (a ≤ length f)
 unfolding admissionAt
-sound-at f a rec e =
+recorded f a rec e =
     let under = passed (leb (length f) limit) 2 limit (demand (leb a (length f)) 3 a (answers (recordingAt f a))) e in
     let header = passed (leb a (length f)) 3 a (answers (recordingAt f a)) (under .1) in
-    let there : a ≤ length f = leb-true a (length f) (header .0) in
-    let few : length f ≤ limit = leb-true (length f) limit (under .0) in
-    let same : recordingAt f a ≡ rec = cc in
-    subst (Sound f) same (record { whole = omega arith; all = refl; within = few })
+    (cc, leb-true (length f) limit (under .0), leb-true a (length f) (header .0))
+
+sound-at : (f : List ℕ) (a : ℕ) (rec : Recording) → admissionAt f a ≡ answers rec → Sound f rec
+sound-at f a rec e =
+    let r = recorded f a rec e in
+    subst (Sound f) (r .0) (record { whole = omega (arith, r .2); all = refl; within = r .1 })
 
 sound-by : (m : Magic) (f : List ℕ) (dss ds2 : Bool) (rec : Recording) → admissionBy m f dss ds2 ≡ answers rec → Sound f rec
 sound-by Dss f dss ds2 rec e = sound-at f _ rec (passed dss _ _ _ e .1)
@@ -75,3 +85,70 @@ sound-by Other f dss ds2 rec e = absurd (not-both e)
 pub sound : (f : List ℕ) (dss ds2 : Bool) (rec : Recording) → admission f dss ds2 ≡ answers rec → Sound f rec
 unfolding admission
 sound f dss ds2 rec e = sound-by (magicOf f) f dss ds2 rec e
+
+-- where the audio of a recording starts
+dss-by : (m : Magic) (f : List ℕ) (rec : Recording) → admissionBy m f true false ≡ answers rec → recordingAt f (512 * getD f 0 0) ≡ rec
+dss-by Dss f rec e = recorded f _ rec e .0
+dss-by Ds2 f rec e = absurd (not-both e)
+dss-by Encrypted f rec e = absurd (not-both e)
+dss-by Grundig f rec e = absurd (not-both e)
+dss-by Other f rec e = absurd (not-both e)
+
+ds2-by : (m : Magic) (f : List ℕ) (rec : Recording) → admissionBy m f false true ≡ answers rec → recordingAt f (audioStart f) ≡ rec
+ds2-by Dss f rec e = absurd (not-both e)
+ds2-by Ds2 f rec e = recorded f _ rec e .0
+ds2-by Encrypted f rec e = absurd (not-both e)
+ds2-by Grundig f rec e = absurd (not-both e)
+ds2-by Other f rec e = absurd (not-both e)
+
+pub dss-recording : (f : List ℕ) (rec : Recording) → admission f true false ≡ answers rec → recordingAt f (512 * getD f 0 0) ≡ rec
+unfolding admission
+dss-recording f rec e = dss-by (magicOf f) f rec e
+
+pub ds2-recording : (f : List ℕ) (rec : Recording) → admission f false true ≡ answers rec → recordingAt f (audioStart f) ≡ rec
+unfolding admission
+ds2-recording f rec e = ds2-by (magicOf f) f rec e
+
+-- under 4 bytes nothing is taken
+pub four-bytes : (f : List ℕ) (dss ds2 : Bool) (rec : Recording) → admission f dss ds2 ≡ answers rec → 4 ≤ length f
+unfolding admission magicOf
+four-bytes f dss ds2 rec e =
+    by-order (length f) 4 (λ h. absurd (not-both {A = Recording} (none h))) (λ h. h)
+  where
+    none : length f < 4 → refuses 1 0 ≡ answers rec
+    none h = let other : magicOf f ≡ Other = simp (lt-ltb (length f) 4 h) in ap (λ (m : Magic). admissionBy m f dss ds2) (sym other) ∙ e
+
+-- the ways of an admission to a DS2 reading of one kind
+module _ (f : List ℕ) (kind : Kind) where
+  pub ds2-refused : {number beside : ℕ} → refuses number beside ≡ admission f false true → refuses number beside ≡ ds2Admission f kind
+  unfolding ds2Admission
+  ds2-refused e = rw (← e)
+
+  pub ds2-goes-on : (rec : Recording) → answers rec ≡ admission f false true → ofKind kind f rec ≡ ds2Admission f kind
+  unfolding ds2Admission
+  ds2-goes-on rec e = rw (← e)
+
+  module _ (rec : Recording) (byte : ℕ) (read : byte ≡ typeIn f rec) where
+    pub of-that-kind : readAs kind byte ≡ true → answers rec ≡ ofKind kind f rec
+    of-that-kind h = rw (← read) (simp h)
+
+    pub of-another : readAs kind byte ≡ false → refuses 11 byte ≡ ofKind kind f rec
+    of-another h = rw (← read) (simp h)
+
+  -- a recording that was taken is sound, is what the admission gave, and has a type of that kind
+  pub ds2-sound : (rec : Recording) → ds2Admission f kind ≡ answers rec
+      → (admission f false true ≡ answers rec) × (readAs kind (typeIn f rec) ≡ true)
+  unfolding ds2Admission
+  ds2-sound rec e =
+      let w = went-on (admission f false true) (ofKind kind f) e in
+      let test = passed (readAs kind (typeIn f (w .0))) 11 (typeIn f (w .0)) (answers (w .0)) (w .2) in
+      let same : w .0 ≡ rec = cc in
+      (rw (← same) (w .1), rw (← same) (test .0))
+
+-- a file with no block is of type 0, and so of kind SP
+pub empty-is-sp : (f : List ℕ) (rec : Recording) → admission f false true ≡ answers rec → rec .blocks ≡ 0 → ds2Admission f Sp ≡ answers rec
+unfolding formatType kindOf
+empty-is-sp f rec taken none =
+    let silent : wholeBlocks (length f) (rec .start .0) ≡ 0 = sym (sound f false true rec taken .all) ∙ none in
+    let zero : typeIn f rec ≡ 0 = type-none f (rec .start .0) (wholeBlocks (length f) (rec .start .0)) 0 silent in
+    sym (ds2-goes-on f Sp rec (sym taken)) ∙ sym (of-that-kind f Sp rec 0 (sym zero) refl)

@@ -3,17 +3,19 @@
 use Prim.Native.Nat.{ℕ, zero, suc, _+_, _*_, _-_, _/_, _≤_, _<_, min}
 use mathlib.Core.Path.{_≡_, refl, sym, ap, _∙_}
 use mathlib.Core.List.{List}
+use mathlib.Core.Bool.{false}
 use mathlib.Core.Logic.{⊎-elim}
 use native.Mathlib.Nat.{not-suc-le-zero}
 use native.Mathlib.Omega.{arith}
-use lib.ListN.{length}
+use lib.ListN.{length, drop}
 use Rattle.tables.proofs.Cases.{by-order}
 use Rattle.tables.proofs.Search.{First, Top, first-or-none, top-one}
 use Rattle.blocks.specs.Places.{wholeBlocks}
 use Rattle.blocks.specs.Headers.{countOf, typeOf}
 use Rattle.detect.specs.Start.{score, scan, scanned}
+use Rattle.detect.specs.Header.{goodHeader}
 use Rattle.detect.specs.Kinds.{firstType, formatType}
-use Rattle.detect.proofs.Start.{scan-none, scan-four, scan-better, scan-worse}
+use Rattle.detect.proofs.Start.{ran-none, ran-ends, scan-none, scan-four, scan-better, scan-worse}
 use Rattle.detect.proofs.Types.{type-none, type-here, type-later}
 
 -- how many candidates there are, candidate number j, and its score
@@ -153,3 +155,17 @@ module _ (f : List ℕ) where
         all-silent few
         (from-silence (wholeBlocks (length f) a) 0 (λ i l. let z : 0 + i ≡ i = omega arith in rw z (omega (arith, few i l)))))
         (first-or-none (countOf f a) 1 (wholeBlocks (length f) a))
+
+-- with no good header at any candidate the start is 0x1000
+pub none-good-start : (f : List ℕ) → ((i : ℕ) → goodHeader (drop (512 * i) f) ≡ false) → scanned f ≡ 0x1000
+none-good-start f none = by-rule (scan-takes f)
+  where
+    no-score : (j : ℕ) → scoreOf f j ≡ 0
+    no-score j =
+        let place : 512 * (j + 1) ≡ candidate j + 512 * 0 = omega arith in
+        ran-ends f (candidate j) 0 (omega arith) (rw place at (none (j + 1))) (ran-none f (candidate j))
+
+    by-rule : Taken f (scanned f) → scanned f ≡ 0x1000
+    by-rule (first-with-four j first at) = let four : 4 ≤ scoreOf f j = first .enough in absurd (not-suc-le-zero (rw (no-score j) at four))
+    by-rule (best-score j few top some at) = absurd (not-suc-le-zero (rw (no-score j) at some))
+    by-rule (none-good all at) = at

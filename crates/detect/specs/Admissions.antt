@@ -2,11 +2,11 @@
 -- Assumes nothing.
 use Prim.Native.Nat.{ℕ, _*_}
 use mathlib.Core.List.{List}
-use mathlib.Core.Bool.{Bool}
+use mathlib.Core.Bool.{Bool, true, false}
 use lib.ListN.{getD, length}
 use lib.Dec.{leb}
 use Rattle.blocks.specs.Places.{limit, wholeBlocks}
-use Rattle.refusals.specs.Said.{Said, answers, refuses, refusal, demand}
+use Rattle.refusals.specs.Said.{Said, answers, refuses, refusal, demand, onward}
 use Rattle.magic.specs.declared.Magic.{Magic}
 use Rattle.magic.specs.declared.Magic.the-variants.{Dss, Ds2, Encrypted, Grundig, Other}
 use Rattle.detect.specs.declared.Recording.{Recording}
@@ -14,7 +14,8 @@ use Rattle.detect.specs.declared.Admission.{Admission}
 use Rattle.detect.specs.declared.Admission.the-variants.{Admitted, Refused}
 use Rattle.blocks.specs.Headers.{announcedIn}
 use Rattle.detect.specs.Start.{audioStart}
-use Rattle.detect.specs.Kinds.{formatType}
+use Rattle.detect.specs.Kinds.{formatType, readAs}
+use Rattle.detect.specs.declared.Kind.{Kind}
 use Rattle.magic.specs.Magics.{magicOf}
 
 -- the recording whose audio starts at a
@@ -49,3 +50,10 @@ typeIn f rec = formatType f (rec .start .0)
 
 abbrev pub announcedBy : List ℕ → Recording → ℕ
 announcedBy f rec = announcedIn f (rec .start .0) (rec .blocks)
+
+-- a reading of one kind of DS2 file asks the type after that: refusal 11 with the type
+abbrev pub ofKind : Kind → List ℕ → Recording → Said Recording
+ofKind kind f rec = demand (readAs kind (typeIn f rec)) 11 (typeIn f rec) (answers rec)
+
+unfoldable pub ds2Admission : List ℕ → Kind → Said Recording
+ds2Admission f kind = onward (admission f false true) (ofKind kind f)

@@ -2,7 +2,7 @@
 -- Assumes nothing.
 use Prim.Native.Nat.{ℕ, zero, suc, _+_}
 use mathlib.Core.List.{List}
-use mathlib.Core.Bool.{cond}
+use mathlib.Core.Bool.{Bool, cond}
 use lib.ListN.{length}
 use lib.Dec.{ltb, eqb}
 use Rattle.blocks.specs.Places.{wholeBlocks}
@@ -24,6 +24,16 @@ formatType f a = firstType f a (wholeBlocks (length f) a) 0
 -- 0 to 5 are SP, 7 is QP7, and 6 and 8 to 255 are QP
 unfoldable pub kindOf : ℕ → Kind
 kindOf t = cond (ltb t 6) Sp (cond (eqb t 7) Qp7 Qp)
+
+-- a kind's number, by which two kinds are compared
+abbrev pub kindNumber : Kind → ℕ
+kindNumber Sp = 1
+kindNumber Qp = 2
+kindNumber Qp7 = 3
+
+-- a type is read as this kind
+abbrev pub readAs : Kind → ℕ → Bool
+readAs kind t = eqb (kindNumber (kindOf t)) (kindNumber kind)
 
 -- 6 is reported as QP, 7 as QP7, and every other type as SP
 unfoldable pub formatOf : ℕ → AudioFormat

@@ -9,7 +9,7 @@ ghost use Prim.Native.Nat.{_-_, min};
 ghost use lib.ListN.{drop};
 ghost use Rattle.detect.specs.Header.{goodType, goodHeader};
 ghost use Rattle.detect.specs.Start.{scanned, audioStart};
-ghost use Rattle.detect.specs.Kinds.{formatType, kindOf};
+ghost use Rattle.detect.specs.Kinds.{formatType, kindOf, kindNumber, readAs};
 
 // Where the audio starts without a scan.
 const DS2_HEADER_SIZE: usize = 0x600;
@@ -137,4 +137,26 @@ pub fn kind_of(byte: u8) -> Kind
         return Kind::Qp7;
     }
     Kind::Qp
+}
+
+impl Kind {
+    fn number(self) -> u8
+        ensures { λ r. ⌜ r ≡ kindNumber self ⌝ }
+    {
+        match self {
+            Kind::Sp => 1,
+            Kind::Qp => 2,
+            Kind::Qp7 => 3,
+        }
+    }
+}
+
+// For the crates above. Whether a type is read as this kind.
+pub fn is_read_as(byte: u8, kind: Kind) -> bool
+    ensures { λ r. ⌜ r ≡ readAs kind byte ⌝ }
+{
+    let read = kind_of(byte);
+    let one = read.number();
+    let other = kind.number();
+    one == other
 }

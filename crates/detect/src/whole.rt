@@ -1,6 +1,7 @@
 // What every whole call asks first, and a block's payload on request. Rests on the rest of this crate, on blocks, on magic and
 // on refusals.
 use crate::Admission;
+use crate::Kind;
 use crate::PayloadAnswer;
 use crate::Recording;
 use blocks::BLOCK;
@@ -15,7 +16,7 @@ ghost use Prim.Native.Nat.{_*_, _≤_};
 ghost use lib.ListN.{getD};
 ghost use Rattle.blocks.specs.Places.{Whole};
 ghost use Rattle.refusals.specs.Said.{demand};
-ghost use Rattle.detect.specs.Admissions.{admissionAt, admission, admissionSays, typeIn, announcedBy};
+ghost use Rattle.detect.specs.Admissions.{admissionAt, admission, admissionSays, typeIn, announcedBy, ofKind, ds2Admission};
 ghost use Rattle.detect.specs.Payload.{payloadPlace, payloadSays, payloadShown};
 
 // A file whose audio starts there: the magic is one that the call takes, the limit, the header whole.
@@ -74,6 +75,28 @@ impl Recording {
         let start = self.start;
         let blocks = self.blocks;
         blocks::announced(file, start, blocks)
+    }
+
+    // A DS2 recording, if its type is read as this kind.
+    fn of_kind(self, file: &[u8], kind: Kind) -> Admission
+        ensures { λ r. ⌜ admissionSays r ≡ ofKind kind (now (file .entry)) self ⌝ }
+    {
+        let byte = self.format_type(file);
+        if crate::ds2::is_read_as(byte, kind) {
+            return Admission::Admitted(self);
+        }
+        Admission::Refused(Refusal::other_kind(byte))
+    }
+}
+
+// For the crates above. Takes a DS2 file of one kind, or refuses it by 1, 2, 3 or 11.
+pub fn admit_ds2(file: &[u8], kind: Kind) -> Admission
+    ensures { λ r. ⌜ admissionSays r ≡ ds2Admission (now (file .entry)) kind ⌝ }
+{
+    let asked = admit(file, false, true);
+    match asked {
+        Admission::Refused(why) => Admission::Refused(why),
+        Admission::Admitted(recording) => recording.of_kind(file, kind),
     }
 }
 

@@ -1,11 +1,19 @@
--- Every example of the bench holds: by computation on the definitions.
+-- Every example of the bench holds: by computation on the definitions, and for every file by the laws of the readings.
 -- Assumes nothing.
 use mathlib.Core.Path.{refl}
 use Rattle.tables.specs.Table.{table}
 use Rattle.packets.specs.Packet.{packetByte}
 use Rattle.packets.specs.Start.{dssStart}
-use Rattle.examples.specs.Bench.{bench, AllHold}
+use Rattle.examples.specs.Bench.{bench, AllHold, Example4, Example7}
+use Rattle.examples.proofs.Files.{one-holds, three-holds, six-holds}
+
+four-holds : Example4
+unfolding table packetByte
+four-holds = (refl, refl)
+
+seven-holds : Example7
+unfolding dssStart
+seven-holds = (refl, refl, refl)
 
 pub bench-holds : AllHold bench
-unfolding table packetByte dssStart
-bench-holds = ((refl, refl), ((refl, refl, refl), tt))
+bench-holds = (one-holds, (three-holds, (four-holds, (six-holds, (seven-holds, tt)))))

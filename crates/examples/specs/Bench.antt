@@ -1,13 +1,42 @@
 -- The examples from the bench that are proved: one definition for each, and the table of them all.
 -- Assumes nothing.
-use Prim.Native.Nat.{ℕ}
+use Prim.Native.Nat.{ℕ, _+_, _*_, _<_}
 use mathlib.Core.Path.{_≡_}
 use mathlib.Core.List.{List, [], _∷_}
-use mathlib.Core.Bool.{true}
-use lib.ListN.{take, drop}
+use mathlib.Core.Bool.{true, false}
+use lib.ListN.{length, getD, take, drop}
 use Rattle.tables.specs.Table.{table}
+use Rattle.blocks.specs.Headers.{swapOf, countOf, typeOf}
+use Rattle.refusals.specs.Said.{Said, answers, refuses}
+use Rattle.detect.specs.Header.{goodHeader}
 use Rattle.packets.specs.Packet.{packetByte}
 use Rattle.packets.specs.Start.{dssStart}
+use Rattle.sp.specs.Readings.{Reading, total, fileCountAt, ds2Reading}
+use Rattle.sp.specs.Outcome.{inRoom, answered}
+
+-- a file that begins with this byte and `ds2`
+pub record BeginsDs2 (byte : ℕ) (f : List ℕ) : Type 0 where
+  pub first : getD f 0 0 ≡ byte
+  pub d : getD f 1 0 ≡ 100
+  pub s : getD f 2 0 ≡ 115
+  pub two : getD f 3 0 ≡ 50
+
+-- what the DS2 SP reading of a file answers, given room for so many packets
+abbrev pub ds2Answer : List ℕ → ℕ → Said ℕ
+ds2Answer f room = answered (inRoom (ds2Reading f) room)
+
+-- 1: every `\x01ds2` file of 1536 bytes reads as SP with no packets, and every one of 1535 is refused by 3 with 1536
+abbrev pub Example1 : Type 0
+Example1 =
+    (f : List ℕ) (room : ℕ) → BeginsDs2 1 f
+    → (length f ≡ 1536 → ds2Answer f room ≡ answers 0) × (length f ≡ 1535 → ds2Answer f room ≡ refuses 3 1536)
+
+-- 3: every `\x07ds2` file with no good header at a multiple of 512 is refused by 3 with 4096 if it has 4095 bytes, and is empty if it
+-- has 4096
+abbrev pub Example3 : Type 0
+Example3 =
+    (f : List ℕ) (room : ℕ) → BeginsDs2 7 f → ((i : ℕ) → goodHeader (drop (512 * i) f) ≡ false)
+    → (length f ≡ 4095 → ds2Answer f room ≡ refuses 3 4096) × (length f ≡ 4096 → ds2Answer f room ≡ answers 0)
 
 -- 4: a swapped read of 0 to 39 with carry 99 begins 1, 99, 3, 0, 5, 2 and ends 39, 36, 0, 38
 abbrev pub swappedRead : List ℕ
@@ -15,6 +44,17 @@ swappedRead = table 42 (packetByte true 99 (λ j. j))
 
 abbrev pub Example4 : Type 0
 Example4 = (take 6 swappedRead ≡ 1 ∷ 99 ∷ 3 ∷ 0 ∷ 5 ∷ 2 ∷ []) × (drop 38 swappedRead ≡ 39 ∷ 36 ∷ 0 ∷ 38 ∷ [])
+
+-- 6: every `\x01ds2` file of one block with flag 0, count 13 and an SP type reads as 13 packets, of which the last has count 14, and
+-- the counts add up to 506
+abbrev pub sum : List ℕ → ℕ
+sum [] = 0
+sum (x ∷ rest) = x + sum rest
+
+abbrev pub Example6 : Type 0
+Example6 =
+    (f : List ℕ) → BeginsDs2 1 f → length f ≡ 2048 → swapOf f 1536 0 ≡ false → countOf f 1536 0 ≡ 13 → typeOf f 1536 0 < 6
+    → (r : Reading) × (ds2Reading f ≡ answers r) × (total r ≡ 13) × (fileCountAt r 12 ≡ 14) × (sum (table 13 (fileCountAt r)) ≡ 506)
 
 -- 7: the DSS start in block 0 with flag 1 is 506 for byte 1 = 255, 0 for 2, and 2 for 3
 abbrev pub Example7 : Type 0
@@ -26,7 +66,9 @@ pub record Example : Type 1 where
   pub says : Type 0
 
 abbrev pub bench : List Example
-bench = record { number = 4; says = Example4 } ∷ record { number = 7; says = Example7 } ∷ []
+bench =
+    record { number = 1; says = Example1 } ∷ record { number = 3; says = Example3 } ∷ record { number = 4; says = Example4 }
+    ∷ record { number = 6; says = Example6 } ∷ record { number = 7; says = Example7 } ∷ []
 
 -- every example of a table holds
 abbrev pub AllHold : List Example → Type 0

@@ -1,6 +1,6 @@
 -- A walk packet by packet; and its place and parity with no walk.
 -- Assumes nothing.
-use Prim.Native.Nat.{ℕ, zero, suc, _+_, _*_, _/_, _%_, _<_}
+use Prim.Native.Nat.{ℕ, zero, suc, _+_, _*_, _/_, _%_, _≤_, _<_}
 use mathlib.Core.Path.{_≡_, refl, sym, ap, _∙_}
 use mathlib.Core.Bool.{Bool, true, false, not, Bool·not-not}
 use native.Mathlib.Numerals.{add-one}
@@ -52,3 +52,11 @@ unfolding steps
 steps-place s w zero = omega (arith, reach-none (w .swap))
 steps-place s w (suc k) =
     omega (arith, steps-place s w k, ap readSize (steps-swap s w k), reach-more (w .swap) k)
+
+-- a walk does not go back
+reach-upto : (swap : Bool) (j k : ℕ) → j ≤ k → reach swap j ≤ reach swap k
+reach-upto true j k h = omega arith
+reach-upto false j k h = omega arith
+
+pub steps-upto : (s : ℕ → ℕ) (w : Walk) (j k : ℕ) → j ≤ k → steps s w j .place ≤ steps s w k .place
+steps-upto s w j k h = omega (arith, steps-place s w j, steps-place s w k, reach-upto (w .swap) j k h)

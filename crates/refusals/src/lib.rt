@@ -40,6 +40,26 @@ impl Refusal {
         }
     }
 
+    // The packets or records are so many, and there is room for fewer.
+    pub fn room(needed: usize) -> Self
+        ensures { λ r. ⌜ r ≡ numbered 8 needed ⌝ }
+    {
+        Self {
+            number: 8,
+            beside: needed as u64,
+        }
+    }
+
+    // A DS2 file of this type is read as another kind than the call's.
+    pub fn other_kind(byte: u8) -> Self
+        ensures { λ r. ⌜ r ≡ numbered 11 byte ⌝ }
+    {
+        Self {
+            number: 11,
+            beside: byte as u64,
+        }
+    }
+
     // There is no such whole block; or a frame's size is none, it runs past the stream, or the scratch is too small.
     pub fn absent() -> Self
         ensures { λ r. ⌜ r ≡ numbered 12 0 ⌝ }

@@ -1,0 +1,8 @@
+-- The laws and theorems that belong to no one function. They rest on the definitions in specs/.
+pub mod Runs
+pub mod ReadLists
+pub mod Written
+pub mod Blockwise
+pub mod Outcome
+pub mod Longer
+pub mod Theorems

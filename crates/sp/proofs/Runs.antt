@@ -1,0 +1,76 @@
+-- Lists of runs joined: whose packet a number is, and what is carried from one list to the next.
+-- Assumes nothing.
+use Prim.Native.Nat.{ℕ, _+_, _-_, _≤_, _<_}
+use mathlib.Core.Path.{_≡_, refl, sym, ap, _∙_}
+use mathlib.Core.List.{List, [], _∷_, _++_}
+use native.Mathlib.Nat.{not-suc-le-zero}
+use native.Mathlib.Omega.{arith}
+use borrow.Author.Tests.{lt-ltb, le-ltb}
+use Rattle.tables.proofs.Cases.{by-order}
+use Rattle.packets.specs.Walk.{steps}
+use Rattle.sp.specs.declared.Run.{Run}
+use Rattle.sp.specs.Runs.{runBegin, runEnd, packetsIn, standsAt}
+
+pub packets-none : packetsIn [] ≡ 0
+unfolding packetsIn
+packets-none = refl
+
+pub packets-of : (run : Run) (rest : List Run) → packetsIn (run ∷ rest) ≡ run .count + packetsIn rest
+unfolding packetsIn
+packets-of run rest = refl
+
+pub packets-joined : (xs ys : List Run) → packetsIn (xs ++ ys) ≡ packetsIn xs + packetsIn ys
+unfolding packetsIn
+packets-joined [] ys = omega arith
+packets-joined (run ∷ rest) ys = omega (arith, packets-joined rest ys)
+
+-- what is carried on past all the runs
+pub carryPast : (ℕ → ℕ) → ℕ → List Run → ℕ
+carryPast s carry [] = carry
+carryPast s carry (run ∷ rest) = carryPast s (runEnd s carry run .carry) rest
+
+pub carry-none : (s : ℕ → ℕ) (carry : ℕ) → carryPast s carry [] ≡ carry
+unfolding carryPast
+carry-none s carry = refl
+
+pub carry-joined : (s : ℕ → ℕ) (carry : ℕ) (xs ys : List Run) → carryPast s carry (xs ++ ys) ≡ carryPast s (carryPast s carry xs) ys
+unfolding carryPast
+carry-joined s carry [] ys = refl
+carry-joined s carry (run ∷ rest) ys = carry-joined s (runEnd s carry run .carry) rest ys
+
+pub carry-one : (s : ℕ → ℕ) (carry : ℕ) (run : Run) → carryPast s carry (run ∷ []) ≡ runEnd s carry run .carry
+unfolding carryPast
+carry-one s carry run = refl
+
+module _ (s : ℕ → ℕ) where
+  -- a packet of the first run, and one of a later run
+  pub stands-first : (carry : ℕ) (run : Run) (rest : List Run) (k : ℕ) → k < run .count
+      → standsAt s carry (run ∷ rest) k ≡ steps s (runBegin carry run) k
+  unfolding standsAt
+  stands-first carry run rest k h = simp (lt-ltb k (run .count) h)
+
+  pub stands-later : (carry : ℕ) (run : Run) (rest : List Run) (k : ℕ) → run .count ≤ k
+      → standsAt s carry (run ∷ rest) k ≡ standsAt s (runEnd s carry run .carry) rest (k - run .count)
+  unfolding standsAt
+  stands-later carry run rest k h = simp (le-ltb k (run .count) h)
+
+  -- a packet of the first list, and one of the second
+  pub stands-before : (carry : ℕ) (xs ys : List Run) (k : ℕ) → k < packetsIn xs → standsAt s carry (xs ++ ys) k ≡ standsAt s carry xs k
+  unfolding packetsIn
+  stands-before carry [] ys k h = absurd (not-suc-le-zero h)
+  stands-before carry (run ∷ rest) ys k h =
+      by-order k (run .count) (λ l. stands-first carry run (rest ++ ys) k l ∙ sym (stands-first carry run rest k l))
+      (λ l.
+      stands-later carry run (rest ++ ys) k l
+      ∙ stands-before (runEnd s carry run .carry) rest ys (k - run .count) (omega arith)
+      ∙ sym (stands-later carry run rest k l))
+
+  pub stands-after : (carry : ℕ) (xs ys : List Run) (k : ℕ)
+      → standsAt s carry (xs ++ ys) (packetsIn xs + k) ≡ standsAt s (carryPast s carry xs) ys k
+  unfolding packetsIn carryPast
+  stands-after carry [] ys k = let front : 0 + k ≡ k = omega arith in ap (standsAt s carry ys) front
+  stands-after carry (run ∷ rest) ys k =
+      let left : run .count + packetsIn rest + k - run .count ≡ packetsIn rest + k = omega arith in
+      stands-later carry run (rest ++ ys) (run .count + packetsIn rest + k) (omega arith)
+      ∙ ap (standsAt s (runEnd s carry run .carry) (rest ++ ys)) left
+      ∙ stands-after (runEnd s carry run .carry) rest ys k

@@ -1,0 +1,7 @@
+-- The definitions of this crate, a file for each idea. They rest on those of the crates below.
+pub mod Runs
+pub mod ReadLists
+pub mod Readings
+pub mod Outcome
+pub mod Written
+pub mod Longer

@@ -1,0 +1,32 @@
+-- What a run leaves in the two lent buffers, after so many packets that stand there already; and what a whole reading leaves.
+-- Assumes nothing.
+use Prim.Native.Nat.{ℕ, _*_, _^_, _≤_}
+use mathlib.Core.Path.{_≡_}
+use mathlib.Core.List.{List}
+use lib.ListN.{length}
+use Rattle.tables.specs.Lent.{Leaves}
+use Rattle.blocks.specs.Places.{Whole}
+use Rattle.detect.specs.declared.Recording.{Recording}
+use Rattle.detect.specs.Admissions.{announcedBy}
+use Rattle.packets.specs.Walk.{Walk, steps, joinedAt, countAt}
+use Rattle.sp.specs.Readings.{Reading, total, byteAt, fileCountAt}
+
+-- the first `count` packets of the walk w over the stream s, with their counts, stand from number `base` on
+pub record RunWritten (s : ℕ → ℕ) (long : ℕ) (w : Walk) (base count : ℕ) (out out′ counts counts′ : List ℕ) (carry : ℕ) : Type 0 where
+  pub packets-are : Leaves out (42 * base) (42 * count) (joinedAt s w) out′
+  pub counts-are : Leaves counts base count (λ k. countAt long (steps s w k)) counts′
+  pub carry-is : carry ≡ steps s w count .carry
+
+-- all packets of a reading stand from the front on
+pub record Written (reading : Reading) (out out′ counts counts′ : List ℕ) : Type 0 where
+  pub packets-are : Leaves out 0 (42 * total reading) (byteAt reading) out′
+  pub counts-are : Leaves counts 0 (total reading) (fileCountAt reading) counts′
+
+-- what is asked before a recording is written: its blocks are whole, they and its packets are few enough for a file within the
+-- limit, and there is room for all its packets
+pub record Ready (f : List ℕ) (rec : Recording) (out counts : List ℕ) : Type 0 where
+  pub whole : Whole f (rec .start .0) (rec .blocks)
+  pub blocks-few : rec .blocks ≤ 2 ^ 32
+  pub packets-few : announcedBy f rec ≤ 2 ^ 48
+  pub out-room : 42 * announcedBy f rec ≤ length out
+  pub counts-room : announcedBy f rec ≤ length counts
