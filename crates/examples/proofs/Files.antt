@@ -1,12 +1,12 @@
 -- The examples that speak of every file of some magic and length.
 -- Assumes nothing.
-use Prim.Native.Nat.{ℕ, _+_, _*_, _≤_, _<_}
+use Prim.Native.Nat.{ℕ, _*_, _≤_, _<_}
 use mathlib.Core.Path.{_≡_, refl, sym, ap, _∙_}
 use mathlib.Core.List.{List}
 use mathlib.Core.Bool.{true, false}
 use native.Mathlib.Omega.{arith}
-use borrow.Author.Tests.{le-ltb, lt-ltb, eq-eqb, ne-eqb}
-use lib.ListN.{length, getD, drop}
+use borrow.Author.Tests.{le-ltb, lt-ltb}
+use lib.ListN.{length, drop}
 use Rattle.tables.specs.Table.{table}
 use Rattle.tables.proofs.Table.{same-table}
 use Rattle.blocks.specs.Places.{limit, wholeBlocks}
@@ -14,21 +14,20 @@ use Rattle.blocks.specs.Headers.{countOf, typeOf, swapOf, announcedIn}
 use Rattle.blocks.proofs.Headers.{announced-none, announced-more}
 use Rattle.magic.specs.declared.Magic.the-variants.{Ds2}
 use Rattle.magic.specs.Magics.{spells, ds2By, magicOf}
-use Rattle.refusals.specs.Said.{Said, answers, refuses}
+use Rattle.refusals.specs.Said.{answers, refuses}
 use Rattle.detect.specs.declared.Recording.{Recording}
 use Rattle.detect.specs.declared.Kind.the-variants.{Sp}
 use Rattle.detect.specs.Header.{goodHeader}
-use Rattle.detect.specs.Start.{scanned, audioStart}
+use Rattle.detect.specs.Start.{audioStart}
 use Rattle.detect.specs.Kinds.{formatType, kindOf, readAs}
-use Rattle.detect.specs.Admissions.{recordingAt, admissionAt, admission, typeIn, ds2Admission}
+use Rattle.detect.specs.Admissions.{admissionAt, admission, typeIn, ds2Admission}
 use Rattle.detect.proofs.Admissions.{bare-header, cut-header, admitted, ds2-refused, ds2-goes-on, of-that-kind}
 use Rattle.detect.proofs.Types.{type-here}
 use Rattle.detect.proofs.Rules.{none-good-start}
 use Rattle.packets.specs.Packet.{fileCount}
 use Rattle.packets.specs.Walk.{reach, parity}
-use Rattle.sp.specs.Readings.{Reading, total, fileCountAt, walkAt, readingOf, ds2Reading}
+use Rattle.sp.specs.Readings.{Reading, fileCountAt, readingOf, ds2Reading}
 use Rattle.sp.specs.ReadLists.{ds2Runs}
-use Rattle.sp.specs.Outcome.{inRoom, answered}
 use Rattle.sp.proofs.ReadLists.{ds2-packets}
 use Rattle.sp.proofs.Theorems.{ds2-empty, refused-at-once, ds2-reads-at}
 use Rattle.examples.specs.Bench.{BeginsDs2, ds2Answer, sum, Example1, Example3, Example6}
@@ -73,18 +72,16 @@ unfolding ds2By
 known-7 = refl
 
 pub one-holds : Example1
-one-holds f room begins =
-    (
-      (λ long. bare 1 1536 f room begins known-1 (start-1 f begins) long (omega arith) (omega arith)),
-      (λ long. cut 1 1536 f room begins known-1 (start-1 f begins) (omega arith) (omega arith) (omega arith)),
-    )
+one-holds f room begins = (
+  (λ long. bare 1 1536 f room begins known-1 (start-1 f begins) long (omega arith) (omega arith)),
+  (λ long. cut 1 1536 f room begins known-1 (start-1 f begins) (omega arith) (omega arith) (omega arith)),
+)
 
 pub three-holds : Example3
-three-holds f room begins none =
-    (
-      (λ long. cut 7 4096 f room begins known-7 (start-7 f begins none) (omega arith) (omega arith) (omega arith)),
-      (λ long. bare 7 4096 f room begins known-7 (start-7 f begins none) long (omega arith) (omega arith)),
-    )
+three-holds f room begins none = (
+  (λ long. cut 7 4096 f room begins known-7 (start-7 f begins none) (omega arith) (omega arith) (omega arith)),
+  (λ long. bare 7 4096 f room begins known-7 (start-7 f begins none) long (omega arith) (omega arith)),
+)
 
 -- one block
 module _ (f : List ℕ) (begins : BeginsDs2 1 f) (long : length f ≡ 2048) (flag : swapOf f 1536 0 ≡ false) (thirteen : countOf f 1536 0 ≡ 13)
@@ -112,7 +109,7 @@ module _ (f : List ℕ) (begins : BeginsDs2 1 f) (long : length f ≡ 2048) (fla
   unfolding ds2Reading
   reads =
       let kind : ds2Admission f Sp ≡ answers rec =
-          sym (ds2-goes-on f Sp rec (sym taken)) ∙ sym (of-that-kind f Sp rec (typeOf f 1536 0) (sym type-is) is-sp) in
+      sym (ds2-goes-on f Sp rec (sym taken)) ∙ sym (of-that-kind f Sp rec (typeOf f 1536 0) (sym type-is) is-sp) in
       rw kind
 
   announced : announcedIn f 1536 1 ≡ 13

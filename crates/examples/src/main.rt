@@ -4,6 +4,7 @@ use blocks::FilePlace;
 use detect::AudioFormat;
 use detect::Kind;
 use libc::STDOUT_FILENO;
+use sp::Demuxed;
 ghost use mathlib.Core.Path.{_≡_};
 ghost use Prim.Native.Nat.{_+_, _≤_};
 ghost use lib.ListN.{length};
@@ -42,6 +43,84 @@ fn rising() -> [u8; 40]
     read
 }
 
+fn show_answer(answer: Demuxed) {
+    match answer {
+        Demuxed::Packets(n) => {
+            number(n);
+            text(b" packets");
+        }
+        Demuxed::Refused(why) => {
+            text(b" refused ");
+            io::print_decimal(STDOUT_FILENO, why.number);
+            text(b" ");
+            io::print_decimal(STDOUT_FILENO, why.beside);
+        }
+    }
+}
+
+// A DS2 file that is all zeros after its magic.
+fn silent_ds2(first: u8) -> [u8; 4096]
+    ensures { λ r. ⌜ length r ≡ 4096 ⌝ }
+{
+    let mut file = [0u8; 4096];
+    file[0] = first;
+    file[1] = b'd';
+    file[2] = b's';
+    file[3] = b'2';
+    file
+}
+
+// What the DS2 SP reading says of a file, with no room for any packet.
+fn show_reading(file: &[u8]) {
+    let mut out = [0u8; 0];
+    let mut counts = [0u8; 0];
+    show_answer(sp::demux_ds2(file, &mut out, &mut counts));
+}
+
+// 1: a bare header is empty, a cut one is refused.
+fn example_1() {
+    let file = silent_ds2(1);
+    text(b"1: 1536 bytes");
+    show_reading(&file[0..1536]);
+    text(b", 1535");
+    show_reading(&file[0..1535]);
+    text(b"\n");
+}
+
+// 3: the same after a scan that finds no good header.
+fn example_3() {
+    let file = silent_ds2(7);
+    text(b"3: 4095 bytes");
+    show_reading(&file[0..4095]);
+    text(b", 4096");
+    show_reading(&file);
+    text(b"\n");
+}
+
+fn sum(counts: &[u8; 13]) -> usize {
+    let mut sum: usize = 0;
+    let mut k = 0;
+    while k < 13 {
+        sum += tables::wide(counts[k]);
+        k += 1;
+    }
+    sum
+}
+
+// 6: one block, flag 0, that announces 13 packets: the last has 14 bytes of the file.
+fn example_6() {
+    let file = one_block(13, 0);
+    let mut out = [0u8; 546];
+    let mut counts = [0u8; 13];
+    text(b"6: one block");
+    show_answer(sp::demux_ds2(&file, &mut out, &mut counts));
+    text(b", the last has");
+    number(tables::wide(counts[12]));
+    text(b" file bytes, all have");
+    number(sum(&counts));
+    text(b"\n");
+}
+
 // 4: how the packet of a swapped read begins and ends.
 fn example_4() {
     let read = rising();
@@ -62,14 +141,14 @@ fn example_7() {
     text(b"\n");
 }
 
-// A DS2 file of one block that announces a frame of this type.
-fn one_block(byte: u8) -> [u8; 2048] {
+// A DS2 file of one block that announces so many frames of a type.
+fn one_block(count: u8, byte: u8) -> [u8; 2048] {
     let mut file = [0u8; 2048];
     file[0] = 1;
     file[1] = b'd';
     file[2] = b's';
     file[3] = b'2';
-    file[1538] = 1;
+    file[1538] = count;
     file[1540] = byte;
     file
 }
@@ -95,7 +174,7 @@ fn is_read_qp(file: &[u8]) -> bool {
 fn one_if_otherwise(byte: u8) -> usize
     ensures { λ r. ⌜ r ≤ 1 ⌝ }
 {
-    let file = one_block(byte);
+    let file = one_block(1, byte);
     if is_reported_sp(&file) {
         if is_read_qp(&file) {
             return 1;
@@ -116,7 +195,10 @@ fn reported_otherwise() -> usize {
 }
 
 fn main() {
+    example_1();
+    example_3();
     example_4();
+    example_6();
     example_7();
     text(b"types reported as SP and read as QP:");
     number(reported_otherwise());

@@ -5,4 +5,5 @@ pub mod Written
 pub mod Blockwise
 pub mod Outcome
 pub mod Longer
+pub mod Alike
 pub mod Theorems

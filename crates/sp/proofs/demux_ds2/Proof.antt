@@ -48,8 +48,8 @@ returns-2 c =
     let r = c .before .before .before .before in
     let k = r .before .before .before in
     let t = k .before .before .before in
-    let a = t .before .before .before .before .args in
-    taken (ds2Admission (now (a .file)) Sp) (λ rec. readingOf (now (a .file)) rec ds2Runs) _ _ _ _ _ _ (told (ap admissionSays (k .before .asked2 .given .1)) (t .admit-ds2 .ensures)) (r .read .ensures)
+    let args = t .before .before .before .before .args in
+    taken (ds2Admission (now (args .file)) Sp) (λ rec. readingOf (now (args .file)) rec ds2Runs) _ _ _ _ _ _ (told (ap admissionSays (k .before .asked2 .given .1)) (t .admit-ds2 .ensures)) (r .read .ensures)
 
 pub demux-ds2-spec : {M : Type 1} → statement M
 demux-ds2-spec =

@@ -47,8 +47,8 @@ returns-2 c =
     let r = c .before .before .before .before in
     let k = r .before .before .before in
     let t = k .before .before .before in
-    let a = t .before .before .before .before .args in
-    taken (admission (now (a .file)) true false) (λ rec. readingOf (now (a .file)) rec dssRuns) _ _ _ _ _ _ (told (ap admissionSays (k .before .asked2 .given .1)) (t .admit .ensures)) (r .read .ensures)
+    let args = t .before .before .before .before .args in
+    taken (admission (now (args .file)) true false) (λ rec. readingOf (now (args .file)) rec dssRuns) _ _ _ _ _ _ (told (ap admissionSays (k .before .asked2 .given .1)) (t .admit .ensures)) (r .read .ensures)
 
 pub demux-dss-spec : {M : Type 1} → statement M
 demux-dss-spec =
