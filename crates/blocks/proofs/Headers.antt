@@ -1,4 +1,4 @@
--- Laws of header fields: the flag is a bit of its byte, and the announced sum grows block by block.
+-- Laws of header fields: the flag is a bit of its byte, the announced sum grows block by block, and a longer file keeps both.
 -- Assumes nothing.
 use Prim.Native.Nat.{ℕ, zero, suc, _+_, _*_, _/_, _%_, _≤_, _<_}
 use mathlib.Core.Path.{_≡_, refl, sym, ap, _∙_}

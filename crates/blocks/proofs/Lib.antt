@@ -2,3 +2,4 @@
 pub mod Headers
 pub mod Places
 pub mod Stream
+pub mod Alike

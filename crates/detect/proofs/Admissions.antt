@@ -86,6 +86,15 @@ pub sound : (f : List ℕ) (dss ds2 : Bool) (rec : Recording) → admission f ds
 unfolding admission
 sound f dss ds2 rec e = sound-by (magicOf f) f dss ds2 rec e
 
+-- a file of a magic that the call takes
+pub dss-at : (f : List ℕ) → magicOf f ≡ Dss → admission f true false ≡ admissionAt f (512 * getD f 0 0)
+unfolding admission
+dss-at f e = rw e
+
+pub ds2-at : (f : List ℕ) → magicOf f ≡ Ds2 → admission f false true ≡ admissionAt f (audioStart f)
+unfolding admission
+ds2-at f e = rw e
+
 -- where the audio of a recording starts
 dss-by : (m : Magic) (f : List ℕ) (rec : Recording) → admissionBy m f true false ≡ answers rec → recordingAt f (512 * getD f 0 0) ≡ rec
 dss-by Dss f rec e = recorded f _ rec e .0
@@ -124,26 +133,26 @@ module _ (f : List ℕ) (kind : Kind) where
   unfolding ds2Admission
   ds2-refused e = rw (← e)
 
-  pub ds2-goes-on : (rec : Recording) → answers rec ≡ admission f false true → ofKind kind f rec ≡ ds2Admission f kind
+  pub ds2-goes-on : (rec : Recording) → answers rec ≡ admission f false true → ofKind f kind rec ≡ ds2Admission f kind
   unfolding ds2Admission
   ds2-goes-on rec e = rw (← e)
 
   module _ (rec : Recording) (byte : ℕ) (read : byte ≡ typeIn f rec) where
-    pub of-that-kind : readAs kind byte ≡ true → answers rec ≡ ofKind kind f rec
+    pub of-that-kind : readAs byte kind ≡ true → answers rec ≡ ofKind f kind rec
     of-that-kind h = rw (← read) (simp h)
 
-    pub of-another : readAs kind byte ≡ false → refuses 11 byte ≡ ofKind kind f rec
+    pub of-another : readAs byte kind ≡ false → refuses 11 byte ≡ ofKind f kind rec
     of-another h = rw (← read) (simp h)
 
-  -- a recording that was taken is sound, is what the admission gave, and has a type of that kind
-  pub ds2-sound : (rec : Recording) → ds2Admission f kind ≡ answers rec
-      → (admission f false true ≡ answers rec) × (readAs kind (typeIn f rec) ≡ true)
+  -- a recording that was taken was admitted, its type is of that kind, and it is sound
+  pub ds2-admitted : (rec : Recording) → ds2Admission f kind ≡ answers rec
+      → (admission f false true ≡ answers rec) × (readAs (typeIn f rec) kind ≡ true) × Sound f rec
   unfolding ds2Admission
-  ds2-sound rec e =
-      let w = went-on (admission f false true) (ofKind kind f) e in
-      let test = passed (readAs kind (typeIn f (w .0))) 11 (typeIn f (w .0)) (answers (w .0)) (w .2) in
+  ds2-admitted rec e =
+      let w = went-on (admission f false true) (ofKind f kind) e in
+      let test = passed (readAs (typeIn f (w .0)) kind) 11 (typeIn f (w .0)) (answers (w .0)) (w .2) in
       let same : w .0 ≡ rec = cc in
-      (rw (← same) (w .1), rw (← same) (test .0))
+      (rw (← same) (w .1), rw (← same) (test .0), sound f false true rec (rw (← same) (w .1)))
 
 -- a file with no block is of type 0, and so of kind SP
 pub empty-is-sp : (f : List ℕ) (rec : Recording) → admission f false true ≡ answers rec → rec .blocks ≡ 0 → ds2Admission f Sp ≡ answers rec

@@ -7,3 +7,4 @@ pub mod Payload
 pub mod Start
 pub mod Settled
 pub mod Rules
+pub mod Alike

@@ -157,15 +157,15 @@ module _ (f : List ℕ) where
         (first-or-none (countOf f a) 1 (wholeBlocks (length f) a))
 
 -- with no good header at any candidate the start is 0x1000
-pub none-good-start : (f : List ℕ) → ((i : ℕ) → goodHeader (drop (512 * i) f) ≡ false) → scanned f ≡ 0x1000
+pub none-good-start : (f : List ℕ) → ((j : ℕ) → j < candidates f → goodHeader (drop (candidate j) f) ≡ false) → scanned f ≡ 0x1000
 none-good-start f none = by-rule (scan-takes f)
   where
-    no-score : (j : ℕ) → scoreOf f j ≡ 0
-    no-score j =
-        let place : 512 * (j + 1) ≡ candidate j + 512 * 0 = omega arith in
-        ran-ends f (candidate j) 0 (omega arith) (rw place at (none (j + 1))) (ran-none f (candidate j))
+    no-score : (j : ℕ) → j < candidates f → scoreOf f j ≡ 0
+    no-score j h =
+        let place : candidate j ≡ candidate j + 512 * 0 = omega arith in
+        ran-ends f (candidate j) 0 (omega arith) (rw place at (none j h)) (ran-none f (candidate j))
 
     by-rule : Taken f (scanned f) → scanned f ≡ 0x1000
-    by-rule (first-with-four j first at) = let four : 4 ≤ scoreOf f j = first .enough in absurd (not-suc-le-zero (rw (no-score j) at four))
-    by-rule (best-score j few top some at) = absurd (not-suc-le-zero (rw (no-score j) at some))
+    by-rule (first-with-four j first at) = absurd (not-suc-le-zero (rw (no-score j (first .inside)) at (first .enough)))
+    by-rule (best-score j few top some at) = absurd (not-suc-le-zero (rw (no-score j (top .inside)) at some))
     by-rule (none-good all at) = at

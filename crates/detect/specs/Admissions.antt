@@ -1,5 +1,5 @@
--- What every whole call does first: magic, limit, audio start. Refusals 1, 2 and 3 with the numbers beside them, or the recording.
--- Assumes nothing.
+-- What every whole call does first: magic, limit, audio start, and for a reading of one kind the type. Refusals 1, 2, 3 and 11 with
+-- the numbers beside them, or the recording. Assumes nothing.
 use Prim.Native.Nat.{ℕ, _*_}
 use mathlib.Core.List.{List}
 use mathlib.Core.Bool.{Bool, true, false}
@@ -52,8 +52,8 @@ abbrev pub announcedBy : List ℕ → Recording → ℕ
 announcedBy f rec = announcedIn f (rec .start .0) (rec .blocks)
 
 -- a reading of one kind of DS2 file asks the type after that: refusal 11 with the type
-abbrev pub ofKind : Kind → List ℕ → Recording → Said Recording
-ofKind kind f rec = demand (readAs kind (typeIn f rec)) 11 (typeIn f rec) (answers rec)
+abbrev pub ofKind : List ℕ → Kind → Recording → Said Recording
+ofKind f kind rec = demand (readAs (typeIn f rec) kind) 11 (typeIn f rec) (answers rec)
 
 unfoldable pub ds2Admission : List ℕ → Kind → Said Recording
-ds2Admission f kind = onward (admission f false true) (ofKind kind f)
+ds2Admission f kind = onward (admission f false true) (ofKind f kind)

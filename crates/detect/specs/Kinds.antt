@@ -2,7 +2,7 @@
 -- Assumes nothing.
 use Prim.Native.Nat.{ℕ, zero, suc, _+_}
 use mathlib.Core.List.{List}
-use mathlib.Core.Bool.{Bool, cond}
+use mathlib.Core.Bool.{Bool, true, false, cond}
 use lib.ListN.{length}
 use lib.Dec.{ltb, eqb}
 use Rattle.blocks.specs.Places.{wholeBlocks}
@@ -25,15 +25,21 @@ formatType f a = firstType f a (wholeBlocks (length f) a) 0
 unfoldable pub kindOf : ℕ → Kind
 kindOf t = cond (ltb t 6) Sp (cond (eqb t 7) Qp7 Qp)
 
--- a kind's number, by which two kinds are compared
-abbrev pub kindNumber : Kind → ℕ
-kindNumber Sp = 1
-kindNumber Qp = 2
-kindNumber Qp7 = 3
+-- two kinds are the same
+abbrev pub sameKind : Kind → Kind → Bool
+sameKind Sp Sp = true
+sameKind Sp Qp = false
+sameKind Sp Qp7 = false
+sameKind Qp Sp = false
+sameKind Qp Qp = true
+sameKind Qp Qp7 = false
+sameKind Qp7 Sp = false
+sameKind Qp7 Qp = false
+sameKind Qp7 Qp7 = true
 
 -- a type is read as this kind
-abbrev pub readAs : Kind → ℕ → Bool
-readAs kind t = eqb (kindNumber (kindOf t)) (kindNumber kind)
+abbrev pub readAs : ℕ → Kind → Bool
+readAs t kind = sameKind (kindOf t) kind
 
 -- 6 is reported as QP, 7 as QP7, and every other type as SP
 unfoldable pub formatOf : ℕ → AudioFormat

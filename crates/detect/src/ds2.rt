@@ -9,7 +9,7 @@ ghost use Prim.Native.Nat.{_-_, min};
 ghost use lib.ListN.{drop};
 ghost use Rattle.detect.specs.Header.{goodType, goodHeader};
 ghost use Rattle.detect.specs.Start.{scanned, audioStart};
-ghost use Rattle.detect.specs.Kinds.{formatType, kindOf, kindNumber, readAs};
+ghost use Rattle.detect.specs.Kinds.{formatType, kindOf, sameKind, readAs};
 
 // Where the audio starts without a scan.
 const DS2_HEADER_SIZE: usize = 0x600;
@@ -139,24 +139,33 @@ pub fn kind_of(byte: u8) -> Kind
     Kind::Qp
 }
 
-impl Kind {
-    fn number(self) -> u8
-        ensures { λ r. ⌜ r ≡ kindNumber self ⌝ }
-    {
-        match self {
-            Kind::Sp => 1,
-            Kind::Qp => 2,
-            Kind::Qp7 => 3,
-        }
+// Whether two kinds are the same.
+fn same_kind(one: Kind, other: Kind) -> bool
+    ensures { λ r. ⌜ r ≡ sameKind one other ⌝ }
+{
+    match one {
+        Kind::Sp => match other {
+            Kind::Sp => true,
+            Kind::Qp => false,
+            Kind::Qp7 => false,
+        },
+        Kind::Qp => match other {
+            Kind::Sp => false,
+            Kind::Qp => true,
+            Kind::Qp7 => false,
+        },
+        Kind::Qp7 => match other {
+            Kind::Sp => false,
+            Kind::Qp => false,
+            Kind::Qp7 => true,
+        },
     }
 }
 
-// For the crates above. Whether a type is read as this kind.
+// For the whole calls here and in the crates above. Whether a type is read as this kind.
 pub fn is_read_as(byte: u8, kind: Kind) -> bool
-    ensures { λ r. ⌜ r ≡ readAs kind byte ⌝ }
+    ensures { λ r. ⌜ r ≡ readAs byte kind ⌝ }
 {
     let read = kind_of(byte);
-    let one = read.number();
-    let other = kind.number();
-    one == other
+    same_kind(read, kind)
 }

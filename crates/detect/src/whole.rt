@@ -79,7 +79,7 @@ impl Recording {
 
     // A DS2 recording, if its type is read as this kind.
     fn of_kind(self, file: &[u8], kind: Kind) -> Admission
-        ensures { λ r. ⌜ admissionSays r ≡ ofKind kind (now (file .entry)) self ⌝ }
+        ensures { λ r. ⌜ admissionSays r ≡ ofKind (now (file .entry)) kind self ⌝ }
     {
         let byte = self.format_type(file);
         if crate::ds2::is_read_as(byte, kind) {

@@ -1,13 +1,13 @@
 -- The examples that speak of every file of some magic and length.
 -- Assumes nothing.
-use Prim.Native.Nat.{ℕ, _*_, _≤_, _<_}
+use Prim.Native.Nat.{ℕ, _+_, _*_, _≤_, _<_}
 use mathlib.Core.Path.{_≡_, refl, sym, ap, _∙_}
 use mathlib.Core.List.{List}
 use mathlib.Core.Bool.{true, false}
 use native.Mathlib.Omega.{arith}
 use borrow.Author.Tests.{le-ltb, lt-ltb}
 use lib.ListN.{length, drop}
-use Rattle.tables.specs.Table.{table}
+use Rattle.tables.specs.Table.{table, sum}
 use Rattle.tables.proofs.Table.{same-table}
 use Rattle.blocks.specs.Places.{limit, wholeBlocks}
 use Rattle.blocks.specs.Headers.{countOf, typeOf, swapOf, announcedIn}
@@ -19,40 +19,32 @@ use Rattle.detect.specs.declared.Recording.{Recording}
 use Rattle.detect.specs.declared.Kind.the-variants.{Sp}
 use Rattle.detect.specs.Header.{goodHeader}
 use Rattle.detect.specs.Start.{audioStart}
-use Rattle.detect.specs.Kinds.{formatType, kindOf, readAs}
+use Rattle.detect.specs.Kinds.{formatType, readAs}
 use Rattle.detect.specs.Admissions.{admissionAt, admission, typeIn, ds2Admission}
-use Rattle.detect.proofs.Admissions.{bare-header, cut-header, admitted, ds2-refused, ds2-goes-on, of-that-kind}
-use Rattle.detect.proofs.Types.{type-here}
+use Rattle.detect.proofs.Admissions.{ds2-at, admitted, ds2-goes-on, of-that-kind}
+use Rattle.detect.proofs.Types.{type-here, sp-is-0-to-5}
 use Rattle.detect.proofs.Rules.{none-good-start}
 use Rattle.packets.specs.Packet.{fileCount}
 use Rattle.packets.specs.Walk.{reach, parity}
 use Rattle.sp.specs.Readings.{Reading, fileCountAt, readingOf, ds2Reading}
 use Rattle.sp.specs.ReadLists.{ds2Runs}
 use Rattle.sp.proofs.ReadLists.{ds2-packets}
-use Rattle.sp.proofs.Theorems.{ds2-empty, refused-at-once, ds2-reads-at}
-use Rattle.examples.specs.Bench.{BeginsDs2, ds2Answer, sum, Example1, Example3, Example6}
+use Rattle.sp.proofs.Theorems.{ds2-bare, ds2-cut, ds2-reads-at}
+use Rattle.examples.specs.Bench.{BeginsDs2, ds2Answer, Example1, Example3, Example6}
 
--- a file that begins so, and is long enough, is a DS2 file from its audio start on
+-- a file that begins so, and is long enough, is a DS2 file
 is-ds2 : (byte : ℕ) (f : List ℕ) → BeginsDs2 byte f → ds2By byte ≡ Ds2 → 4 ≤ length f → magicOf f ≡ Ds2
 unfolding magicOf spells
 is-ds2 byte f begins known long =
     simp (le-ltb (length f) 4 long, begins .d, begins .s, begins .two, begins .first, known)
 
-at-start : (byte a : ℕ) (f : List ℕ) → BeginsDs2 byte f → ds2By byte ≡ Ds2 → 4 ≤ length f → audioStart f ≡ a
-    → admission f false true ≡ admissionAt f a
-unfolding admission
-at-start byte a f begins known long start = rw (is-ds2 byte f begins known long, start)
-
+-- its header bare, and cut
 module _ (byte a : ℕ) (f : List ℕ) (room : ℕ) (begins : BeginsDs2 byte f) (known : ds2By byte ≡ Ds2) (start : audioStart f ≡ a) where
   bare : length f ≡ a → 4 ≤ a → a ≤ limit → ds2Answer f room ≡ answers 0
-  bare long four few =
-      let taken = at-start byte a f begins known (omega arith) start ∙ bare-header f a (omega arith) long in
-      ds2-empty f (record { start = record { 0 = a }; blocks = 0 }) room taken refl
+  bare long four few = ds2-bare f room (omega arith) (is-ds2 byte f begins known (omega arith)) (long ∙ sym start)
 
   cut : length f < a → 4 ≤ length f → length f ≤ limit → ds2Answer f room ≡ refuses 3 a
-  cut short four few =
-      let refused = at-start byte a f begins known four start ∙ cut-header f a few short in
-      refused-at-once f room 3 a .1 (sym (ds2-refused f Sp (sym refused)))
+  cut short four few = ds2-cut f room few (is-ds2 byte f begins known four) (omega (arith, start)) ∙ ap (refuses 3) start
 
 -- the audio of a file whose first byte is 1 starts at 1536, and of one with 7 where the scan says
 start-1 : (f : List ℕ) → BeginsDs2 1 f → audioStart f ≡ 1536
@@ -61,7 +53,9 @@ start-1 f begins = simp (begins .first)
 
 start-7 : (f : List ℕ) → BeginsDs2 7 f → ((i : ℕ) → goodHeader (drop (512 * i) f) ≡ false) → audioStart f ≡ 4096
 unfolding audioStart
-start-7 f begins none = simp (begins .first) (none-good-start f none)
+start-7 f begins none =
+    simp (begins .first)
+    (none-good-start f (λ j h. let place : 512 * (j + 1) ≡ 512 + 512 * j = omega arith in rw place at (none (j + 1))))
 
 known-1 : ds2By 1 ≡ Ds2
 unfolding ds2By
@@ -84,7 +78,7 @@ three-holds f room begins none = (
 )
 
 -- one block
-module _ (f : List ℕ) (begins : BeginsDs2 1 f) (long : length f ≡ 2048) (flag : swapOf f 1536 0 ≡ false) (thirteen : countOf f 1536 0 ≡ 13)
+module _ (f : List ℕ) (begins : BeginsDs2 1 f) (one : wholeBlocks (length f) 1536 ≡ 1) (flag : swapOf f 1536 0 ≡ false) (thirteen : countOf f 1536 0 ≡ 13)
     (sp : typeOf f 1536 0 < 6) where
   abbrev rec : Recording
   rec = record { start = record { 0 = 1536 }; blocks = 1 }
@@ -94,16 +88,15 @@ module _ (f : List ℕ) (begins : BeginsDs2 1 f) (long : length f ≡ 2048) (fla
 
   taken : admission f false true ≡ answers rec
   taken =
-      at-start 1 1536 f begins known-1 (omega arith) (start-1 f begins)
-      ∙ sym (admitted f true 1536 refl (omega arith) (omega arith) 1 (omega arith))
+      ds2-at f (is-ds2 1 f begins known-1 (omega arith)) ∙ ap (admissionAt f) (start-1 f begins)
+      ∙ sym (admitted f true 1536 refl (omega arith) (omega arith) 1 (sym one))
 
   type-is : typeIn f rec ≡ typeOf f 1536 0
   unfolding formatType
   type-is = type-here f 1536 (wholeBlocks (length f) 1536) 0 0 (omega arith) (omega arith)
 
-  is-sp : readAs Sp (typeOf f 1536 0) ≡ true
-  unfolding kindOf
-  is-sp = simp (lt-ltb (typeOf f 1536 0) 6 sp)
+  is-sp : readAs (typeOf f 1536 0) Sp ≡ true
+  is-sp = sp-is-0-to-5 (typeOf f 1536 0) ∙ lt-ltb (typeOf f 1536 0) 6 sp
 
   reads : ds2Reading f ≡ answers r
   unfolding ds2Reading
@@ -128,14 +121,14 @@ unfolding fileCount
 last-short = refl
 
 all-of-it : sum (table 13 (λ k. fileCount 506 (parity false k) (reach false k))) ≡ 506
-unfolding table fileCount
+unfolding table sum fileCount
 all-of-it = refl
 
 pub six-holds : Example6
-six-holds f begins long flag thirteen sp = (
-  r f begins long flag thirteen sp,
-  reads f begins long flag thirteen sp,
-  ds2-packets f 1536 1 ∙ announced f begins long flag thirteen sp,
-  counted f begins long flag thirteen sp 12 (omega arith) ∙ last-short,
-  ap sum (all-counts f begins long flag thirteen sp) ∙ all-of-it,
+six-holds f begins one flag thirteen sp = (
+  r f begins one flag thirteen sp,
+  reads f begins one flag thirteen sp,
+  ds2-packets f 1536 1 ∙ announced f begins one flag thirteen sp,
+  counted f begins one flag thirteen sp 12 (omega arith) ∙ last-short,
+  ap sum (all-counts f begins one flag thirteen sp) ∙ all-of-it,
 )

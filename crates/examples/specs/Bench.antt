@@ -1,11 +1,12 @@
 -- The examples from the bench that are proved: one definition for each, and the table of them all.
 -- Assumes nothing.
-use Prim.Native.Nat.{ℕ, _+_, _*_, _<_}
+use Prim.Native.Nat.{ℕ, _*_, _<_}
 use mathlib.Core.Path.{_≡_}
 use mathlib.Core.List.{List, [], _∷_}
 use mathlib.Core.Bool.{true, false}
 use lib.ListN.{length, getD, take, drop}
-use Rattle.tables.specs.Table.{table}
+use Rattle.tables.specs.Table.{table, sum}
+use Rattle.blocks.specs.Places.{wholeBlocks}
 use Rattle.blocks.specs.Headers.{swapOf, countOf, typeOf}
 use Rattle.refusals.specs.Said.{Said, answers, refuses}
 use Rattle.detect.specs.Header.{goodHeader}
@@ -45,15 +46,11 @@ swappedRead = table 42 (packetByte true 99 (λ j. j))
 abbrev pub Example4 : Type 0
 Example4 = (take 6 swappedRead ≡ 1 ∷ 99 ∷ 3 ∷ 0 ∷ 5 ∷ 2 ∷ []) × (drop 38 swappedRead ≡ 39 ∷ 36 ∷ 0 ∷ 38 ∷ [])
 
--- 6: every `\x01ds2` file of one block with flag 0, count 13 and an SP type reads as 13 packets, of which the last has count 14, and
--- the counts add up to 506
-abbrev pub sum : List ℕ → ℕ
-sum [] = 0
-sum (x ∷ rest) = x + sum rest
-
+-- 6: every `\x01ds2` file of one whole block, with flag 0, count 13 and an SP type, reads as 13 packets, of which the last has count
+-- 14, and the counts add up to 506
 abbrev pub Example6 : Type 0
 Example6 =
-    (f : List ℕ) → BeginsDs2 1 f → length f ≡ 2048 → swapOf f 1536 0 ≡ false → countOf f 1536 0 ≡ 13 → typeOf f 1536 0 < 6
+    (f : List ℕ) → BeginsDs2 1 f → wholeBlocks (length f) 1536 ≡ 1 → swapOf f 1536 0 ≡ false → countOf f 1536 0 ≡ 13 → typeOf f 1536 0 < 6
     → (r : Reading) × (ds2Reading f ≡ answers r) × (total r ≡ 13) × (fileCountAt r 12 ≡ 14) × (sum (table 13 (fileCountAt r)) ≡ 506)
 
 -- 7: the DSS start in block 0 with flag 1 is 506 for byte 1 = 255, 0 for 2, and 2 for 3

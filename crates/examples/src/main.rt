@@ -58,8 +58,8 @@ fn show_answer(answer: Demuxed) {
     }
 }
 
-// A DS2 file that is all zeros after its magic.
-fn silent_ds2(first: u8) -> [u8; 4096]
+// A DS2 file of zeros, but for its magic and what the block at 1536 announces.
+fn ds2_file(first: u8, count: u8, byte: u8) -> [u8; 4096]
     ensures { λ r. ⌜ length r ≡ 4096 ⌝ }
 {
     let mut file = [0u8; 4096];
@@ -67,6 +67,8 @@ fn silent_ds2(first: u8) -> [u8; 4096]
     file[1] = b'd';
     file[2] = b's';
     file[3] = b'2';
+    file[1538] = count;
+    file[1540] = byte;
     file
 }
 
@@ -79,7 +81,7 @@ fn show_reading(file: &[u8]) {
 
 // 1: a bare header is empty, a cut one is refused.
 fn example_1() {
-    let file = silent_ds2(1);
+    let file = ds2_file(1, 0, 0);
     text(b"1: 1536 bytes");
     show_reading(&file[0..1536]);
     text(b", 1535");
@@ -89,11 +91,22 @@ fn example_1() {
 
 // 3: the same after a scan that finds no good header.
 fn example_3() {
-    let file = silent_ds2(7);
+    let file = ds2_file(7, 0, 0);
     text(b"3: 4095 bytes");
     show_reading(&file[0..4095]);
     text(b", 4096");
     show_reading(&file);
+    text(b"\n");
+}
+
+// 4: how the packet of a swapped read begins and ends.
+fn example_4() {
+    let read = rising();
+    let bytes = packets::packet_bytes(&read, 0, true, 99);
+    text(b"4: a swapped packet begins");
+    show(&bytes, 0, 6);
+    text(b" and ends");
+    show(&bytes, 38, 4);
     text(b"\n");
 }
 
@@ -109,26 +122,15 @@ fn sum(counts: &[u8; 13]) -> usize {
 
 // 6: one block, flag 0, that announces 13 packets: the last has 14 bytes of the file.
 fn example_6() {
-    let file = one_block(13, 0);
+    let file = ds2_file(1, 13, 0);
     let mut out = [0u8; 546];
     let mut counts = [0u8; 13];
     text(b"6: one block");
-    show_answer(sp::demux_ds2(&file, &mut out, &mut counts));
+    show_answer(sp::demux_ds2(&file[0..2048], &mut out, &mut counts));
     text(b", the last has");
     number(tables::wide(counts[12]));
     text(b" file bytes, all have");
     number(sum(&counts));
-    text(b"\n");
-}
-
-// 4: how the packet of a swapped read begins and ends.
-fn example_4() {
-    let read = rising();
-    let bytes = packets::packet_bytes(&read, 0, true, 99);
-    text(b"4: a swapped packet begins");
-    show(&bytes, 0, 6);
-    text(b" and ends");
-    show(&bytes, 38, 4);
     text(b"\n");
 }
 
@@ -139,18 +141,6 @@ fn example_7() {
     number(packets::dss_start(0, 2, true).0);
     number(packets::dss_start(0, 3, true).0);
     text(b"\n");
-}
-
-// A DS2 file of one block that announces so many frames of a type.
-fn one_block(count: u8, byte: u8) -> [u8; 2048] {
-    let mut file = [0u8; 2048];
-    file[0] = 1;
-    file[1] = b'd';
-    file[2] = b's';
-    file[3] = b'2';
-    file[1538] = count;
-    file[1540] = byte;
-    file
 }
 
 fn is_reported_sp(file: &[u8]) -> bool {
@@ -174,9 +164,9 @@ fn is_read_qp(file: &[u8]) -> bool {
 fn one_if_otherwise(byte: u8) -> usize
     ensures { λ r. ⌜ r ≤ 1 ⌝ }
 {
-    let file = one_block(1, byte);
-    if is_reported_sp(&file) {
-        if is_read_qp(&file) {
+    let file = ds2_file(1, 1, byte);
+    if is_reported_sp(&file[0..2048]) {
+        if is_read_qp(&file[0..2048]) {
             return 1;
         }
     }

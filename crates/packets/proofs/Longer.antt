@@ -7,11 +7,12 @@ use native.Mathlib.Omega.{arith}
 use borrow.Author.Tests.{eq-eqb, ne-eqb}
 use lib.Dec.{eqb}
 use Rattle.tables.proofs.Cases.{by-equal}
+use Rattle.tables.specs.Table.{table}
 use Rattle.tables.proofs.Table.{same-table}
 use Rattle.packets.specs.declared.Packet.{Packet}
 use Rattle.packets.specs.Packet.{readSize, swappedByte, packetByte, carryAfter, from, fileCount, isWhole, IsPacket}
 use Rattle.packets.proofs.Packets.{whole-says}
-use Rattle.packets.specs.Walk.{Walk, steps}
+use Rattle.packets.specs.Walk.{Walk, steps, byteOf, countAt, Complete}
 
 -- two streams agree below n
 abbrev pub Agree : (ℕ → ℕ) → (ℕ → ℕ) → ℕ → Type 0
@@ -46,16 +47,26 @@ pub same-count : (n m : ℕ) (swap : Bool) (q : ℕ) → n ≤ m → q + readSiz
 unfolding fileCount
 same-count n m swap q more complete = omega arith
 
+-- the packet at which a walk stands, and its count, are those of a longer stream if its read is complete
+pub same-at : (s t : ℕ → ℕ) (n m : ℕ) (w : Walk) → Agree s t n → n ≤ m → Complete n w
+    → (table 42 (byteOf s w) ≡ table 42 (byteOf t w)) × (countAt n w ≡ countAt m w)
+same-at s t n m w agree more complete = (
+  same-table 42 _ _
+      (λ i h.
+      same-packet (w .swap) (w .carry) (from s (w .place)) (from t (w .place)) i (same-read s t n (w .swap) (w .place) agree complete) h),
+  same-count n m (w .swap) (w .place) more complete,
+)
+
 -- the packet that a read gives is the one that it gives of a longer stream
 pub longer : (s t : ℕ → ℕ) (n m : ℕ) (swap : Bool) (carry q : ℕ) (p : Packet) → Agree s t n → n ≤ m → isWhole n swap q ≡ true
     → IsPacket s n swap carry q p → IsPacket t m swap carry q p
 longer s t n m swap carry q p agree more whole x =
     let complete = whole-says n swap q whole in
-    let read = same-read s t n swap q agree complete in
+    let same = same-at s t n m (record { place = q; carry = carry; swap = swap }) agree more complete in
     record {
-      bytes-are = x .bytes-are ∙ same-table 42 _ _ (λ i h. same-packet swap carry (from s q) (from t q) i read h);
-      count-is = x .count-is ∙ same-count n m swap q more complete;
-      carry-is = x .carry-is ∙ same-carry swap carry (from s q) (from t q) read;
+      bytes-are = x .bytes-are ∙ same .0;
+      count-is = x .count-is ∙ same .1;
+      carry-is = x .carry-is ∙ same-carry swap carry (from s q) (from t q) (same-read s t n swap q agree complete);
       next-is = x .next-is;
     }
 

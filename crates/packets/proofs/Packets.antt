@@ -1,16 +1,14 @@
 -- Whole and short, counts and carries; and that two packets of one read are the same.
 -- Assumes nothing.
 use Prim.Native.Nat.{ℕ, _+_, _-_, _≤_, _<_, min}
-use mathlib.Core.Path.{_≡_, refl, ap, _∙_}
+use mathlib.Core.Path.{_≡_, refl}
 use mathlib.Core.List.{List}
 use mathlib.Core.Bool.{Bool, true, false}
 use native.Mathlib.Omega.{arith}
 use borrow.Author.Tests.{eq-eqb, eqb-true, eqb-false}
-use lib.ListN.{length}
-use Rattle.tables.proofs.Table.{length-table}
 use Rattle.tables.proofs.Cases.{by-order}
 use Rattle.packets.specs.declared.Packet.{Packet}
-use Rattle.packets.specs.Packet.{readSize, packetByte, carryAfter, from, fileCount, isWhole, IsPacket}
+use Rattle.packets.specs.Packet.{readSize, carryAfter, fileCount, isWhole, IsPacket}
 
 pub read-most : (swap : Bool) → readSize swap ≤ 42
 read-most true = omega arith
@@ -58,9 +56,6 @@ carry-kept carry c = refl
 pub carry-new : (carry : ℕ) (c : ℕ → ℕ) → carryAfter false carry c ≡ c 40
 unfolding carryAfter
 carry-new carry c = refl
-
-pub packet-long : (s : ℕ → ℕ) (n : ℕ) (swap : Bool) (carry q : ℕ) (p : Packet) → IsPacket s n swap carry q p → length (p .bytes) ≡ 42
-packet-long s n swap carry q p x = ap length (x .bytes-are) ∙ length-table 42 (packetByte swap carry (from s q))
 
 -- two packets that a read may give are the same
 packet : List ℕ → ℕ → ℕ → ℕ → Packet

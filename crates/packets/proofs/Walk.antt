@@ -18,6 +18,10 @@ pub steps-more : (s : ℕ → ℕ) (w : Walk) (k : ℕ) → steps s w (k + 1) �
 unfolding steps
 steps-more s w k = ap (steps s w) (add-one k)
 
+pub joined-is : (s : ℕ → ℕ) (w : Walk) (j : ℕ) → joinedAt s w j ≡ byteOf s (steps s w (j / 42)) (j % 42)
+unfolding joinedAt
+joined-is s w j = refl
+
 pub joined-in : (s : ℕ → ℕ) (w : Walk) (n i : ℕ) → i < 42 → byteOf s (steps s w n) i ≡ joinedAt s w (42 * n + i)
 unfolding joinedAt
 joined-in s w n i h =

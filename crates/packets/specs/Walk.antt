@@ -1,6 +1,6 @@
 -- A walk over the payload stream, packet after packet: parity flips after each, and the carry goes on.
 -- Assumes nothing.
-use Prim.Native.Nat.{ℕ, zero, suc, _+_, _*_, _-_, _/_, _%_}
+use Prim.Native.Nat.{ℕ, zero, suc, _+_, _*_, _-_, _/_, _%_, _≤_}
 use mathlib.Core.Bool.{Bool, not, cond}
 use lib.Dec.{eqb}
 use Rattle.packets.specs.Packet.{readSize, packetByte, carryAfter, from, fileCount}
@@ -10,10 +10,6 @@ pub record Walk : Type 0 where
   pub place : ℕ
   pub carry : ℕ
   pub swap : Bool
-
--- a walk from place 0, the carry being 0
-abbrev pub fresh : Bool → Walk
-fresh swap = record { place = 0; carry = 0; swap = swap }
 
 -- after one packet more
 abbrev pub step : (ℕ → ℕ) → Walk → Walk
@@ -35,6 +31,10 @@ byteOf s w i = packetByte (w .swap) (w .carry) (from s (w .place)) i
 
 abbrev pub countAt : ℕ → Walk → ℕ
 countAt n w = fileCount n (w .swap) (w .place)
+
+-- that packet's read is complete in a stream of n bytes
+abbrev pub Complete : ℕ → Walk → Type 0
+Complete n w = w .place + readSize (w .swap) ≤ n
 
 -- byte j of the packets from w on, joined
 unfoldable pub joinedAt : (ℕ → ℕ) → Walk → ℕ → ℕ

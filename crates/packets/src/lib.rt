@@ -15,6 +15,9 @@ ghost use Rattle.packets.specs.Packet.{readSize, packetByte, carryAfter,
 ghost use Rattle.packets.specs.Start.{dssStart};
 ghost use Rattle.packets.specs.Gathered.{bytesOf, Shifted, Blended, Window};
 
+// The size of a packet.
+pub const PACKET: usize = 42;
+
 // A read that begins here in its block, or before, ends inside it whatever its parity: 506 less 42.
 const LAST_INSIDE: usize = 464;
 

@@ -8,29 +8,25 @@ use native.Mathlib.Nat.{not-suc-le-zero}
 use native.Mathlib.Omega.{arith}
 use lib.ListN.{length-append}
 use Rattle.tables.proofs.Cases.{by-order}
-use Rattle.tables.proofs.Table.{same-table}
+use Rattle.tables.specs.Table.{table}
 use Rattle.blocks.specs.Places.{Whole, streamAt}
 use Rattle.blocks.specs.Headers.{headerByte, flagOf, countOf, announcedIn}
 use Rattle.blocks.proofs.Headers.{header-kept, announced-kept, announced-upto}
 use Rattle.blocks.proofs.Stream.{longer-agrees}
 use Rattle.detect.specs.declared.Recording.{Recording}
+use Rattle.detect.specs.Admissions.{recordingAt}
 use Rattle.detect.proofs.Admissions.{Sound}
-use Rattle.packets.specs.Packet.{readSize, from}
-use Rattle.packets.specs.Walk.{Walk, steps, byteOf, countAt}
-use Rattle.packets.proofs.Packets.{whole-says, whole-if}
+use Rattle.packets.specs.Packet.{readSize}
+use Rattle.packets.specs.Walk.{Walk, steps, byteOf, countAt, Complete}
 use Rattle.packets.proofs.Walk.{steps-none, steps-more, steps-upto}
-use Rattle.packets.proofs.Longer.{Agree, same-packet, same-read, same-count, steps-longer}
+use Rattle.packets.proofs.Longer.{Agree, same-at, steps-longer}
 use Rattle.sp.specs.declared.Run.{Run}
 use Rattle.sp.specs.Runs.{runBegin, runEnd, packetsIn, standsAt}
 use Rattle.sp.specs.ReadLists.{dssRun, dssRuns, ds2Run, ds2Runs}
-use Rattle.sp.specs.Readings.{Reading, total, walkAt, readingOf}
-use Rattle.sp.specs.Longer.{WholeAt, SameAt}
+use Rattle.sp.specs.Readings.{Reading, total, walkAt, CompleteAt, readingOf}
+use Rattle.sp.specs.Longer.{SameAt}
 use Rattle.sp.proofs.Runs.{stands-first, stands-later, stands-before}
 use Rattle.sp.proofs.ReadLists.{runs-none, runs-more, runs-same, runs-go-on, ds2-packets, dss-packets, some-block}
-
--- the read at which a walk stands ends at or before n
-abbrev pub Complete : ℕ → Walk → Type 0
-Complete n w = w .place + readSize (w .swap) ≤ n
 
 module _ (s t : ℕ → ℕ) (n : ℕ) (agree : Agree s t n) where
   -- a run whose reads are all complete ends alike in both streams
@@ -77,57 +73,31 @@ pub record Extends (one other : Reading) : Type 0 where
   pub more : total one ≤ total other
   pub runs-alike : (s : ℕ → ℕ) (k : ℕ) → k < total one → standsAt s 0 (one .runs) k ≡ standsAt s 0 (other .runs) k
 
--- a packet is the same in both if it and all before it are whole
-pub same-upto : (one other : Reading) → Extends one other → (k : ℕ) → k < total one → ((j : ℕ) → j ≤ k → WholeAt one j) → SameAt one other k
+-- a packet is the same in both if its read, and those of all before it, are complete
+pub same-upto : (one other : Reading) → Extends one other → (k : ℕ) → k < total one → ((j : ℕ) → j ≤ k → CompleteAt one j) → SameAt one other k
 same-upto one other x k h all =
+    let stands = stands-alike (one .stream) (other .stream) (one .long) (x .agree) 0 (one .runs) k h all ∙ x .runs-alike (other .stream) k h in
+    let same = same-at (one .stream) (other .stream) (one .long) (other .long) (walkAt one k) (x .agree) (x .longer) (all k (omega arith)) in
     record {
       there = omega (arith, x .more);
-      bytes =
-          same-table 42 _ _
-          (λ i l.
-          same-packet (v .swap) (v .carry) (from s (v .place)) (from t (v .place)) i (same-read s t n (v .swap) (v .place) (x .agree) (complete k (omega arith))) l
-          ∙ ap (λ (u : Walk). byteOf t u i) stands);
-      count = same-count n (other .long) (v .swap) (v .place) (x .longer) (complete k (omega arith)) ∙ ap (countAt (other .long)) stands;
+      bytes = same .0 ∙ ap (λ (w : Walk). table 42 (byteOf (other .stream) w)) stands;
+      count = same .1 ∙ ap (countAt (other .long)) stands;
     }
-  where
-    s : ℕ → ℕ
-    s = one .stream
 
-    t : ℕ → ℕ
-    t = other .stream
-
-    n : ℕ
-    n = one .long
-
-    v : Walk
-    v = walkAt one k
-
-    complete : (j : ℕ) → j ≤ k → Complete n (walkAt one j)
-    complete j l = whole-says n (walkAt one j .swap) (walkAt one j .place) (all j l)
-
-    stands : v ≡ walkAt other k
-    stands = stands-alike s t n (x .agree) 0 (one .runs) k h complete ∙ x .runs-alike t k h
-
--- one run: a packet that is whole has only whole ones before it
-pub whole-before : (s : ℕ → ℕ) (long : ℕ) (run : Run) (j k : ℕ) → j ≤ k → k < run .count
-    → WholeAt (record { stream = s; long = long; runs = run ∷ [] }) k
-    → WholeAt (record { stream = s; long = long; runs = run ∷ [] }) j
-whole-before s long run j k l h whole =
+-- in one run a complete read has only complete ones before it
+pub complete-before : (s : ℕ → ℕ) (n : ℕ) (run : Run) (j k : ℕ) → j ≤ k → k < run .count → Complete n (standsAt s 0 (run ∷ []) k)
+    → Complete n (standsAt s 0 (run ∷ []) j)
+complete-before s n run j k l h complete =
     by-order j k
     (λ less.
     let next : steps s w j .place + readSize (steps s w j .swap) ≤ steps s w k .place =
     rw steps-more at (steps-upto s w (j + 1) k (omega arith)) in
-    whole-if long (at j .swap) (at j .place) (subst (Complete long) (sym (stands-first s 0 run [] j (omega arith))) (omega (arith, next, complete))))
-    (λ same. let e : k ≡ j = omega arith in subst (λ (i : ℕ). WholeAt (record { stream = s; long = long; runs = run ∷ [] }) i) e whole)
+    let here = subst (Complete n) (stands-first s 0 run [] k h) complete in
+    subst (Complete n) (sym (stands-first s 0 run [] j (omega arith))) (omega (arith, next, here)))
+    (λ same. let e : k ≡ j = omega arith in subst (λ (i : ℕ). Complete n (standsAt s 0 (run ∷ []) i)) e complete)
   where
     w : Walk
     w = runBegin 0 run
-
-    at : ℕ → Walk
-    at i = standsAt s 0 (run ∷ []) i
-
-    complete : Complete long (steps s w k)
-    complete = subst (Complete long) (stands-first s 0 run [] k h) (whole-says long (at k .swap) (at k .place) whole)
 
 -- the blocks in front are the same in a longer file, and so are their runs
 module _ (f p : List ℕ) (a : ℕ) where
@@ -191,13 +161,15 @@ module _ (f p : List ℕ) (a n m : ℕ) (whole : Whole f a n) (more : n ≤ m) w
       ∙ ap (λ (w : Walk). steps s w k) (cc flag)
       ∙ sym (stands-first s 0 (ds2Run (f ++ p) a m) [] k (omega (arith, announced-more-or-same))))
 
--- of two recordings that start at the same place, one of a file and one of a longer file
-pub recordings-extend : (f p : List ℕ) (rec rec′ : Recording) (runs : List ℕ → ℕ → ℕ → List Run) → Sound f rec → Sound (f ++ p) rec′
-    → rec .start .0 ≡ rec′ .start .0
+-- of two recordings, one of a file and one of a longer file, whose audio starts at the same place
+pub recordings-extend : (f p : List ℕ) (a b : ℕ) (rec rec′ : Recording) (runs : List ℕ → ℕ → ℕ → List Run) → recordingAt f a ≡ rec → a ≡ b
+    → recordingAt (f ++ p) b ≡ rec′ → Sound f rec → Sound (f ++ p) rec′
     → ((n m : ℕ) → Whole f (rec .start .0) n → n ≤ m
     → Extends (record { stream = streamAt f (rec .start .0) n; long = 506 * n; runs = runs f (rec .start .0) n })
     (record { stream = streamAt (f ++ p) (rec .start .0) m; long = 506 * m; runs = runs (f ++ p) (rec .start .0) m }))
     → Extends (readingOf f rec runs) (readingOf (f ++ p) rec′ runs)
-recordings-extend f p rec rec′ runs here there start law =
+recordings-extend f p a b rec rec′ runs one same other here there law =
+    let start : rec .start .0 ≡ rec′ .start .0 =
+    sym (ap (λ (r : Recording). r .start .0) one) ∙ same ∙ ap (λ (r : Recording). r .start .0) other in
     rw (← start)
     (law (rec .blocks) (rec′ .blocks) (here .whole) (omega (arith, here .all, there .all, start, length-append f p)))

@@ -1,24 +1,25 @@
 -- The ways of a whole SP call: it refuses and leaves everything, or has room and writes.
 -- Assumes nothing.
-use Prim.Native.Nat.{ℕ, _*_, _^_, _≤_}
-use mathlib.Core.Path.{_≡_, refl}
+use Prim.Native.Nat.{ℕ, _*_, _≤_}
+use mathlib.Core.Path.{_≡_, refl, sym, ap, _∙_, subst}
 use mathlib.Core.List.{List}
 use mathlib.Core.Bool.{true, false}
 use native.Mathlib.Omega.{arith}
-use borrow.Author.Tests.{leb-true}
+use borrow.Author.Tests.{le-leb, leb-true}
 use lib.Dec.{leb}
 use Rattle.tables.proofs.Lent.{leaves-over}
-use Rattle.blocks.specs.Places.{Whole}
 use Rattle.refusals.specs.Numbers.{numbered}
-use Rattle.refusals.specs.Said.{Said, answers, refuses, onward}
+use Rattle.refusals.specs.Said.{Said, answers, refuses, demand}
+use Rattle.refusals.proofs.Said.{passed, went-on, only-one}
+use Rattle.sp.specs.declared.Run.{Run}
 use Rattle.sp.specs.declared.Demuxed.{Demuxed}
 use Rattle.detect.specs.declared.Recording.{Recording}
 use Rattle.detect.specs.Admissions.{announcedBy}
 use Rattle.detect.proofs.Admissions.{Sound}
 use Rattle.sp.specs.declared.Demuxed.the-variants.{Packets, Refused}
-use Rattle.sp.specs.Readings.{Reading, total}
-use Rattle.sp.specs.Outcome.{roomIn, inRoom, Demuxes}
-use Rattle.sp.specs.Written.{Written, Ready}
+use Rattle.sp.specs.Readings.{Reading, total, readingOf, readBy}
+use Rattle.sp.specs.Outcome.{roomIn, inRoom, answered, demuxedSays, Demuxes}
+use Rattle.sp.specs.Written.{Written, Readable, Ready}
 
 -- a refusal is passed on
 pub passed-on : (number beside : ℕ) (out counts : List ℕ) → Demuxes (refuses number beside) out out counts counts (Refused (numbered number beside))
@@ -44,29 +45,85 @@ module _ (reading : Reading) (out counts : List ℕ) (needed : ℕ) (is : needed
       }
 
 -- what is asked before the writing
-pub is-ready : (f : List ℕ) (rec : Recording) (out counts : List ℕ) (needed : ℕ) → Whole f (rec .start .0) (rec .blocks) → rec .blocks ≤ 2 ^ 32
-    → needed ≡ announcedBy f rec → needed ≤ 255 * rec .blocks → leb needed (roomIn out counts) ≡ true → Ready f rec out counts
-is-ready f rec out counts needed whole few is most h =
+pub is-ready : (f : List ℕ) (rec : Recording) (out counts : List ℕ) (needed : ℕ) → Readable f rec → needed ≡ announcedBy f rec
+    → needed ≤ 255 * rec .blocks → leb needed (roomIn out counts) ≡ true → Ready f rec out counts
+is-ready f rec out counts needed readable is most h =
     let fits : needed ≤ roomIn out counts = leb-true needed (roomIn out counts) h in
     record {
-      whole = whole;
-      blocks-few = few;
-      packets-few = omega (arith, is);
+      readable = readable;
+      packets-few = omega (arith, is, readable .blocks-few);
       out-room = omega (arith, is);
       counts-room = omega (arith, is);
     }
 
--- a reading that begins with an admission: its refusal is passed on, and a recording goes on to be read
-module _ (said : Said Recording) (read : Recording → Reading) (out counts : List ℕ) where
+-- what was admitted: a refusal is passed on, and a recording goes on to be read
+module _ (f : List ℕ) (said : Said Recording) (runs : List ℕ → ℕ → ℕ → List Run) (out counts : List ℕ) where
   pub not-taken : (number beside : ℕ) → refuses number beside ≡ said
-      → Demuxes (onward said (λ rec. answers (read rec))) out out counts counts (Refused (numbered number beside))
+      → Demuxes (readBy f said runs) out out counts counts (Refused (numbered number beside))
   not-taken number beside e = rw (← e) (passed-on number beside out counts)
 
   pub taken : (rec : Recording) (out′ counts′ : List ℕ) (answer : Demuxed) → answers rec ≡ said
-      → Demuxes (answers (read rec)) out out′ counts counts′ answer
-      → Demuxes (onward said (λ rec. answers (read rec))) out out′ counts counts′ answer
+      → Demuxes (answers (readingOf f rec runs)) out out′ counts counts′ answer → Demuxes (readBy f said runs) out out′ counts counts′ answer
   taken rec out′ counts′ answer e d = rw (← e) d
 
--- a recording that was taken can be read
-pub may-read : (f : List ℕ) (rec : Recording) → Sound f rec → Whole f (rec .start .0) (rec .blocks) × (rec .blocks ≤ 2 ^ 32)
-may-read f rec sound = (sound .whole, omega (arith, sound .all, sound .within))
+-- a recording that was admitted can be read
+pub may-read : (f : List ℕ) (rec : Recording) → Sound f rec → Readable f rec
+may-read f rec sound = record { whole = sound .whole; blocks-few = omega (arith, sound .all, sound .within) }
+
+-- what was read
+pub read-by : (f : List ℕ) (said : Said Recording) (runs : List ℕ → ℕ → ℕ → List Run) (r : Reading) → readBy f said runs ≡ answers r
+    → (rec : Recording) × (said ≡ answers rec) × (readingOf f rec runs ≡ r)
+read-by f said runs r e =
+    let w = went-on said (λ rec. answers (readingOf f rec runs)) e in
+    (w .0, w .1, cc)
+
+-- what an accepted call has read
+pub accepted-read : (reading : Said Reading) (out out′ counts counts′ : List ℕ) (answer : Demuxed) → Demuxes reading out out′ counts counts′ answer
+    → (n : ℕ) → demuxedSays answer ≡ answers n
+    → (r : Reading) × (reading ≡ answers r) × (total r ≡ n) × (n ≤ roomIn out counts) × (inRoom reading (roomIn out counts) ≡ answers r)
+unfolding inRoom
+accepted-read reading out out′ counts counts′ answer d n e =
+    let w = went-on (inRoom reading (roomIn out counts)) (λ r. answers (total r)) (sym (d .answer-is) ∙ e) in
+    let v = went-on reading (λ r. demand (leb (total r) (roomIn out counts)) 8 (total r) (answers r)) (w .1) in
+    let test = passed (leb (total (v .0)) (roomIn out counts)) 8 (total (v .0)) (answers (v .0)) (v .2) in
+    let same : v .0 ≡ w .0 = cc in
+    let many : total (w .0) ≡ n = cc in
+    let fits : total (v .0) ≤ roomIn out counts = leb-true (total (v .0)) (roomIn out counts) (test .0) in
+    (w .0, rw (← same) (v .1), many, omega (arith, ap total same), w .1)
+
+-- an answer is read back from what it says
+demuxed-read : Said ℕ → Demuxed
+demuxed-read (answers n) = Packets n
+demuxed-read (refuses number beside) = Refused (numbered number beside)
+
+demuxed-back : (x : Demuxed) → demuxed-read (demuxedSays x) ≡ x
+unfolding demuxed-read
+demuxed-back (Packets n) = refl
+demuxed-back (Refused why) = refl
+
+-- what is seen of an outcome
+abbrev pub Seen : Type 0
+Seen = Demuxed × List ℕ × List ℕ
+
+pub only-outcome : {reading : Said Reading} {out out₁ out₂ counts counts₁ counts₂ : List ℕ} {one other : Demuxed}
+    → Demuxes reading out out₁ counts counts₁ one → Demuxes reading out out₂ counts counts₂ other
+    → _≡_ {A = Seen} (one, out₁, counts₁) (other, out₂, counts₂)
+only-outcome {reading} {out} {out₁} {out₂} {counts} {counts₁} {counts₂} {one} {other} d e =
+    let answer : one ≡ other = only-one demuxedSays demuxed-read demuxed-back one other _ (d .answer-is) (e .answer-is) in
+    cc (answer, d .out-is, e .out-is, d .counts-are, e .counts-are)
+
+-- the reading of what was admitted is the reading of the file
+pub read-as : (f : List ℕ) (asked said : Said Recording) (runs : List ℕ → ℕ → ℕ → List Run) (out out′ counts counts′ : List ℕ) (answer : Demuxed)
+    → asked ≡ said → Demuxes (readBy f asked runs) out out′ counts counts′ answer → Demuxes (readBy f said runs) out out′ counts counts′ answer
+read-as f asked said runs out out′ counts counts′ answer e d =
+    subst (λ (x : Said Recording). Demuxes (readBy f x runs) out out′ counts counts′ answer) e d
+
+-- a reading of no packets needs no room
+pub nothing-to-read : (r : Reading) (room : ℕ) → total r ≡ 0 → answered (inRoom (answers r) room) ≡ answers 0
+unfolding inRoom
+nothing-to-read r room none = let fits : 0 ≤ room = omega arith in simp (none, le-leb 0 room fits)
+
+-- what is refused before the room is asked
+pub refused-before : (room number beside : ℕ) → answered (inRoom (refuses number beside) room) ≡ refuses number beside
+unfolding inRoom
+refused-before room number beside = refl

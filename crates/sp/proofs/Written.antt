@@ -1,7 +1,7 @@
 -- What stands in the lent buffers, packet by packet in a run and run by run in a reading.
 -- Assumes nothing.
 use Prim.Native.Nat.{ℕ, _+_, _*_, _-_, _/_, _%_, _≤_, _<_}
-use mathlib.Core.Path.{_≡_, refl, sym, ap, _∙_, subst}
+use mathlib.Core.Path.{_≡_, sym, ap, _∙_, subst}
 use mathlib.Core.List.{List, [], _∷_, _++_}
 use mathlib.Core.Bool.{not}
 use native.Mathlib.Nat.{not-suc-le-zero}
@@ -14,16 +14,12 @@ use Rattle.packets.specs.declared.Packet.{Packet}
 use Rattle.packets.specs.Packet.{packetByte, from, IsPacket}
 use Rattle.packets.specs.Walk.{Walk, step, steps, byteOf, joinedAt, countAt}
 use Rattle.packets.proofs.Packets.{read-most}
-use Rattle.packets.proofs.Walk.{steps-none, steps-more, joined-in}
+use Rattle.packets.proofs.Walk.{steps-none, steps-more, joined-is, joined-in}
 use Rattle.sp.specs.declared.Run.{Run}
 use Rattle.sp.specs.Runs.{runBegin, packetsIn, standsAt}
-use Rattle.sp.specs.Readings.{Reading, total, byteAt, fileCountAt}
+use Rattle.sp.specs.Readings.{Reading, total, joinedByteAt, fileCountAt}
 use Rattle.sp.specs.Written.{RunWritten, Written}
 use Rattle.sp.proofs.Runs.{packets-none, packets-of, packets-joined, carryPast, carry-none, stands-before, stands-after, stands-first}
-
-joined-is : (s : ℕ → ℕ) (w : Walk) (j : ℕ) → joinedAt s w j ≡ byteOf s (steps s w (j / 42)) (j % 42)
-unfolding joinedAt
-joined-is s w j = refl
 
 module _ (s : ℕ → ℕ) (long : ℕ) (w : Walk) (base : ℕ) (out counts : List ℕ) where
   run-none : RunWritten s long w base 0 out out counts counts (w .carry)
@@ -105,7 +101,7 @@ module _ (s : ℕ → ℕ) (long : ℕ) (out counts : List ℕ) where
   pub written-none : Written (by []) out out counts counts
   written-none =
       record {
-        packets-are = leaves-to (omega (arith, packets-none)) (leaves-none out 0 (byteAt (by [])));
+        packets-are = leaves-to (omega (arith, packets-none)) (leaves-none out 0 (joinedByteAt (by [])));
         counts-are = leaves-to (sym packets-none) (leaves-none counts 0 (fileCountAt (by [])));
       }
 
@@ -119,7 +115,7 @@ module _ (s : ℕ → ℕ) (long : ℕ) (out counts : List ℕ) where
       record {
         packets-are =
             leaves-to (omega (arith, at))
-            (leaves-join out 0 (42 * base) (42 * count) (byteAt (by runs)) (joinedAt s w) out₁ out₂
+            (leaves-join out 0 (42 * base) (42 * count) (joinedByteAt (by runs)) (joinedAt s w) out₁ out₂
             (leaves-to (omega (arith, at)) (so-far .packets-are))
             (subst (λ (to : ℕ). Leaves out₁ to (42 * count) (joinedAt s w) out₂) (omega arith) (r .packets-are))
             (λ k h. let never : k < 0 = omega arith in absurd (not-suc-le-zero never)));
@@ -140,8 +136,8 @@ module _ (s : ℕ → ℕ) (long : ℕ) (out counts : List ℕ) where
       record {
         packets-are =
             leaves-to (omega (arith, all))
-            (leaves-join out 0 (42 * base) (42 * run .count) (byteAt (by more)) (joinedAt s begin) out₁ out₂
-            (leaves-as (byteAt (by more)) earlier (leaves-to (omega (arith, at)) (so-far .packets-are)))
+            (leaves-join out 0 (42 * base) (42 * run .count) (joinedByteAt (by more)) (joinedAt s begin) out₁ out₂
+            (leaves-as (joinedByteAt (by more)) earlier (leaves-to (omega (arith, at)) (so-far .packets-are)))
             (subst (λ (at : ℕ). Leaves out₁ at (42 * run .count) (joinedAt s begin) out₂) (omega arith) (r .packets-are))
             due);
         counts-are =
@@ -170,10 +166,10 @@ module _ (s : ℕ → ℕ) (long : ℕ) (out counts : List ℕ) where
           ∙ sym (stands-after s 0 runs (run ∷ []) k)
           ∙ ap (λ (m : ℕ). standsAt s 0 more (m + k)) (sym at)
 
-      earlier : (j : ℕ) → j < 42 * base → byteAt (by runs) j ≡ byteAt (by more) j
+      earlier : (j : ℕ) → j < 42 * base → joinedByteAt (by runs) j ≡ joinedByteAt (by more) j
       earlier j h = ap (λ (u : Walk). byteOf s u (j % 42)) (sym (before (j / 42) (omega arith)))
 
-      due : (j : ℕ) → j < 42 * run .count → joinedAt s begin j ≡ byteAt (by more) (42 * base + j)
+      due : (j : ℕ) → j < 42 * run .count → joinedAt s begin j ≡ joinedByteAt (by more) (42 * base + j)
       due j h =
           let number : base + j / 42 ≡ (42 * base + j) / 42 = omega arith in
           let byte : j % 42 ≡ (42 * base + j) % 42 = omega arith in
@@ -185,7 +181,7 @@ module _ (s : ℕ → ℕ) (long : ℕ) (out counts : List ℕ) where
 pub written-nothing : (reading : Reading) (out counts : List ℕ) → total reading ≡ 0 → Written reading out out counts counts
 written-nothing reading out counts none =
     record {
-      packets-are = leaves-to (omega (arith, none)) (leaves-none out 0 (byteAt reading));
+      packets-are = leaves-to (omega (arith, none)) (leaves-none out 0 (joinedByteAt reading));
       counts-are = leaves-to (sym none) (leaves-none counts 0 (fileCountAt reading));
     }
 

@@ -9,7 +9,7 @@ use Rattle.tables.specs.Lent.{over}
 use Rattle.refusals.specs.Said.{Said, answers, refuses, refusal, demand, onward}
 use Rattle.sp.specs.declared.Demuxed.{Demuxed}
 use Rattle.sp.specs.declared.Demuxed.the-variants.{Packets, Refused}
-use Rattle.sp.specs.Readings.{Reading, total, byteAt, fileCountAt}
+use Rattle.sp.specs.Readings.{Reading, total, joinedByteAt, fileCountAt}
 
 -- room for packets: the smaller of the output's length by 42 and the count table's
 abbrev pub roomIn : List ℕ → List ℕ → ℕ
@@ -25,7 +25,7 @@ answered said = onward said (λ reading. answers (total reading))
 
 -- the output holds the packets joined, the table their counts, and what lies past them is as it was
 abbrev pub outAfter : Said Reading → List ℕ → List ℕ
-outAfter (answers reading) out = over (42 * total reading) (byteAt reading) out
+outAfter (answers reading) out = over (42 * total reading) (joinedByteAt reading) out
 outAfter (refuses number beside) out = out
 
 abbrev pub countsAfter : Said Reading → List ℕ → List ℕ

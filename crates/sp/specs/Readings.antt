@@ -2,18 +2,20 @@
 -- Assumes nothing.
 use Prim.Native.Nat.{ℕ, _*_, _/_, _%_}
 use mathlib.Core.List.{List}
-use mathlib.Core.Bool.{true, false}
+use mathlib.Core.Bool.{Bool, true, false}
 use Rattle.tables.specs.Table.{table}
 use Rattle.blocks.specs.Places.{streamAt}
 use Rattle.refusals.specs.Said.{Said, answers, onward}
 use Rattle.detect.specs.declared.Recording.{Recording}
 use Rattle.detect.specs.declared.Kind.the-variants.{Sp}
 use Rattle.detect.specs.Admissions.{admission, ds2Admission}
-use Rattle.packets.specs.Walk.{Walk, byteOf, countAt}
+use Rattle.packets.specs.Packet.{isWhole}
+use Rattle.packets.specs.Walk.{Walk, byteOf, countAt, Complete}
 use Rattle.sp.specs.declared.Run.{Run}
 use Rattle.sp.specs.Runs.{packetsIn, standsAt}
 use Rattle.sp.specs.ReadLists.{dssRuns, ds2Runs}
 
+-- a reading
 pub record Reading : Type 0 where
   pub stream : ℕ → ℕ
   pub long : ℕ
@@ -34,9 +36,16 @@ packetAt reading k = table 42 (byteOf (reading .stream) (walkAt reading k))
 abbrev pub fileCountAt : Reading → ℕ → ℕ
 fileCountAt reading k = countAt (reading .long) (walkAt reading k)
 
+-- packet k is whole; and all the bytes of its read came from the file, which is the same (`whole-exactly`)
+abbrev pub wholeAt : Reading → ℕ → Bool
+wholeAt reading k = isWhole (reading .long) (walkAt reading k .swap) (walkAt reading k .place)
+
+abbrev pub CompleteAt : Reading → ℕ → Type 0
+CompleteAt reading k = Complete (reading .long) (walkAt reading k)
+
 -- byte j of the packets joined
-abbrev pub byteAt : Reading → ℕ → ℕ
-byteAt reading j = byteOf (reading .stream) (walkAt reading (j / 42)) (j % 42)
+abbrev pub joinedByteAt : Reading → ℕ → ℕ
+joinedByteAt reading j = byteOf (reading .stream) (walkAt reading (j / 42)) (j % 42)
 
 -- a recording read by a list of runs
 abbrev pub readingOf : List ℕ → Recording → (List ℕ → ℕ → ℕ → List Run) → Reading
@@ -47,9 +56,13 @@ readingOf f rec runs =
       runs = runs f (rec .start .0) (rec .blocks);
     }
 
+-- what was admitted, read so; a refusal is passed on
+abbrev pub readBy : List ℕ → Said Recording → (List ℕ → ℕ → ℕ → List Run) → Said Reading
+readBy f said runs = onward said (λ rec. answers (readingOf f rec runs))
+
 -- of any file: refusals 1, 2 and 3 for DSS, and 11 after them for DS2
 unfoldable pub dssReading : List ℕ → Said Reading
-dssReading f = onward (admission f true false) (λ rec. answers (readingOf f rec dssRuns))
+dssReading f = readBy f (admission f true false) dssRuns
 
 unfoldable pub ds2Reading : List ℕ → Said Reading
-ds2Reading f = onward (ds2Admission f Sp) (λ rec. answers (readingOf f rec ds2Runs))
+ds2Reading f = readBy f (ds2Admission f Sp) ds2Runs

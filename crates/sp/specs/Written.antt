@@ -6,10 +6,11 @@ use mathlib.Core.List.{List}
 use lib.ListN.{length}
 use Rattle.tables.specs.Lent.{Leaves}
 use Rattle.blocks.specs.Places.{Whole}
+use Rattle.refusals.specs.Said.{Said, answers}
 use Rattle.detect.specs.declared.Recording.{Recording}
 use Rattle.detect.specs.Admissions.{announcedBy}
 use Rattle.packets.specs.Walk.{Walk, steps, joinedAt, countAt}
-use Rattle.sp.specs.Readings.{Reading, total, byteAt, fileCountAt}
+use Rattle.sp.specs.Readings.{Reading, total, joinedByteAt, fileCountAt}
 
 -- the first `count` packets of the walk w over the stream s, with their counts, stand from number `base` on
 pub record RunWritten (s : ℕ → ℕ) (long : ℕ) (w : Walk) (base count : ℕ) (out out′ counts counts′ : List ℕ) (carry : ℕ) : Type 0 where
@@ -19,14 +20,21 @@ pub record RunWritten (s : ℕ → ℕ) (long : ℕ) (w : Walk) (base count : �
 
 -- all packets of a reading stand from the front on
 pub record Written (reading : Reading) (out out′ counts counts′ : List ℕ) : Type 0 where
-  pub packets-are : Leaves out 0 (42 * total reading) (byteAt reading) out′
+  pub packets-are : Leaves out 0 (42 * total reading) (joinedByteAt reading) out′
   pub counts-are : Leaves counts 0 (total reading) (fileCountAt reading) counts′
 
--- what is asked before a recording is written: its blocks are whole, they and its packets are few enough for a file within the
--- limit, and there is room for all its packets
-pub record Ready (f : List ℕ) (rec : Recording) (out counts : List ℕ) : Type 0 where
+-- what is asked before a recording is read: its blocks are whole and few. The bounds here and below are far above what a file within
+-- the limit has, and small enough that no place of a walk comes near 2^62
+pub record Readable (f : List ℕ) (rec : Recording) : Type 0 where
   pub whole : Whole f (rec .start .0) (rec .blocks)
   pub blocks-few : rec .blocks ≤ 2 ^ 32
+
+abbrev pub AllReadable : List ℕ → Said Recording → Type 0
+AllReadable f said = (rec : Recording) → said ≡ answers rec → Readable f rec
+
+-- and before it is written: its packets are few, and there is room for all of them
+pub record Ready (f : List ℕ) (rec : Recording) (out counts : List ℕ) : Type 0 where
+  pub readable : Readable f rec
   pub packets-few : announcedBy f rec ≤ 2 ^ 48
   pub out-room : 42 * announcedBy f rec ≤ length out
   pub counts-room : announcedBy f rec ≤ length counts

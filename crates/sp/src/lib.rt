@@ -1,10 +1,11 @@
 // Whole SP reading: a DSS file's packets, or a DS2 SP file's, into lent memory. The two differ only in their list of reads.
-// Rests on detect, which says whether the file is taken, on packets, which gives a packet for a read, and on refusals.
+// Rests on detect, which says whether the file is taken, on packets, which gives a packet for a read, on refusals, blocks and tables.
 use blocks::FilePlace;
 use blocks::StreamPlace;
 use detect::Admission;
 use detect::Kind;
 use detect::Recording;
+use packets::PACKET;
 use packets::Packet;
 use refusals::Refusal;
 ghost use mathlib.Core.Path.{_≡_};
@@ -15,24 +16,22 @@ ghost use lib.Dec.{leb};
 ghost use Rattle.tables.specs.Lent.{Leaves};
 ghost use Rattle.blocks.specs.Places.{Whole, streamAt};
 ghost use Rattle.refusals.specs.Said.{answers};
-ghost use Rattle.detect.specs.Admissions.{announcedBy};
+ghost use Rattle.detect.specs.Admissions.{announcedBy, admissionSays};
 ghost use Rattle.sp.specs.Runs.{runBegin};
 ghost use Rattle.sp.specs.ReadLists.{dssRun, dssRuns, ds2Runs};
-ghost use Rattle.sp.specs.Readings.{readingOf, dssReading, ds2Reading};
+ghost use Rattle.sp.specs.Readings.{readingOf, readBy, dssReading, ds2Reading};
 ghost use Rattle.sp.specs.Outcome.{Demuxes};
-ghost use Rattle.sp.specs.Written.{RunWritten, Written, Ready};
+ghost use Rattle.sp.specs.Written.{RunWritten, Written, Readable, AllReadable, Ready};
 
-// The size of a packet.
-const PACKET: usize = 42;
-
-// Reads that follow one another: from a start, by a parity to begin with, so many packets.
+// Reads that follow one another: from a start, by a parity to begin with, so many packets. Public for the definitions and for the
+// crates above.
 pub struct Run {
     pub start: StreamPlace,
     pub swap: bool,
     pub count: usize,
 }
 
-// How many packets were handed out, or why none.
+// How many packets were handed out, or why the call refuses.
 pub enum Demuxed {
     Packets(usize),
     Refused(Refusal),
@@ -40,7 +39,6 @@ pub enum Demuxed {
 
 // Puts a packet and its count under a number.
 fn put(packet: Packet, number: usize, out: &mut [u8], counts: &mut [u8])
-    requires bytes { ⌜ length (packet .bytes) ≡ 42 ⌝ }
     requires room { ⌜ (42 * (number + 1) ≤ length (now out)) × (number < length (now counts)) ⌝ }
     ensures bytes { λ _. ⌜ Leaves (now (out .entry)) (42 * number) 42 (λ i. getD (packet .bytes) i 0) (now (out .exit)) ⌝ }
     ensures count { λ _. ⌜ Leaves (now (counts .entry)) number 1 (λ i. packet .count) (now (counts .exit)) ⌝ }
@@ -55,7 +53,8 @@ fn put(packet: Packet, number: usize, out: &mut [u8], counts: &mut [u8])
     counts[number] = packet.count;
 }
 
-// Hands out the packets of a run after `base` others, and gives back what is carried on.
+// Hands out the packets of a run after `base` others, and gives back what is carried on. The bounds on place and number are far
+// above a file's, and keep every place below the 2^62 of read_packet.
 fn write_run(
     file: &[u8],
     recording: Recording,
@@ -101,7 +100,7 @@ fn dss_run(file: &[u8], a: FilePlace, block: usize) -> Run
     Run { start, swap, count }
 }
 
-// Hands out a DSS recording: each block starts anew, and the carry runs on.
+// Hands out a DSS recording: each announcing block starts anew, and the carry runs on. A silent block is a run of no packets.
 fn write_dss(file: &[u8], recording: Recording, out: &mut [u8], counts: &mut [u8])
     requires { ⌜ Ready (now file) recording (now out) (now counts) ⌝ }
     ensures { λ _. ⌜ Written (readingOf (now (file .entry)) recording dssRuns) (now (out .entry)) (now (out .exit)) (now (counts .entry)) (now (counts .exit)) ⌝ }
@@ -147,7 +146,7 @@ fn has_room(needed: usize, out: usize, counts: usize) -> bool
 
 // Hands out a recording if there is room for all its packets.
 fn read(file: &[u8], recording: Recording, dss: bool, out: &mut [u8], counts: &mut [u8]) -> Demuxed
-    requires { ⌜ Whole (now file) (recording .start .0) (recording .blocks) × (recording .blocks ≤ 2 ^ 32) ⌝ }
+    requires { ⌜ Readable (now file) recording ⌝ }
     ensures { λ r. ⌜ Demuxes (answers (readingOf (now (file .entry)) recording (cond dss dssRuns ds2Runs))) (now (out .entry)) (now (out .exit)) (now (counts .entry)) (now (counts .exit)) r ⌝ }
 {
     let needed = recording.announced(file);
@@ -162,15 +161,23 @@ fn read(file: &[u8], recording: Recording, dss: bool, out: &mut [u8], counts: &m
     Demuxed::Packets(needed)
 }
 
+// Hands out an admitted recording, and passes a refusal on.
+fn demux(asked: Admission, file: &[u8], dss: bool, out: &mut [u8], counts: &mut [u8]) -> Demuxed
+    requires { ⌜ AllReadable (now file) (admissionSays asked) ⌝ }
+    ensures { λ r. ⌜ Demuxes (readBy (now (file .entry)) (admissionSays asked) (cond dss dssRuns ds2Runs)) (now (out .entry)) (now (out .exit)) (now (counts .entry)) (now (counts .exit)) r ⌝ }
+{
+    match asked {
+        Admission::Refused(why) => Demuxed::Refused(why),
+        Admission::Admitted(recording) => read(file, recording, dss, out, counts),
+    }
+}
+
 // The packets of a DSS file and their file-byte counts, or a refusal that changes nothing.
 pub fn demux_dss(file: &[u8], out: &mut [u8], counts: &mut [u8]) -> Demuxed
     ensures { λ r. ⌜ Demuxes (dssReading (now (file .entry))) (now (out .entry)) (now (out .exit)) (now (counts .entry)) (now (counts .exit)) r ⌝ }
 {
     let asked = detect::whole::admit(file, true, false);
-    match asked {
-        Admission::Refused(why) => Demuxed::Refused(why),
-        Admission::Admitted(recording) => read(file, recording, true, out, counts),
-    }
+    demux(asked, file, true, out, counts)
 }
 
 // The packets of a DS2 SP file and their file-byte counts, or a refusal that changes nothing.
@@ -178,8 +185,5 @@ pub fn demux_ds2(file: &[u8], out: &mut [u8], counts: &mut [u8]) -> Demuxed
     ensures { λ r. ⌜ Demuxes (ds2Reading (now (file .entry))) (now (out .entry)) (now (out .exit)) (now (counts .entry)) (now (counts .exit)) r ⌝ }
 {
     let asked = detect::whole::admit_ds2(file, Kind::Sp);
-    match asked {
-        Admission::Refused(why) => Demuxed::Refused(why),
-        Admission::Admitted(recording) => read(file, recording, false, out, counts),
-    }
+    demux(asked, file, false, out, counts)
 }

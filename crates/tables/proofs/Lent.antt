@@ -7,7 +7,7 @@ use mathlib.Core.Bool.{cond}
 use native.Mathlib.Nat.{not-suc-le-zero}
 use native.Mathlib.Omega.{arith}
 use borrow.Author.Tests.{lt-ltb, le-ltb, eq-eqb, ne-eqb}
-use lib.ListN.{length, getD, set, length-set}
+use lib.ListN.{length, getD, set, length-set, List·getD-eq-default}
 use lib.Seq.{getD-set-same, getD-set-other}
 use lib.Dec.{ltb, eqb}
 use Rattle.tables.proofs.Cases.{by-order, by-equal}
@@ -125,3 +125,15 @@ over-in n f d k h l = table-at (length d) _ k l ∙ simp (lt-ltb k n h)
 pub over-past : (n : ℕ) (f : ℕ → ℕ) (d : List ℕ) (k : ℕ) → n ≤ k → k < length d → getD (over n f d) k 0 ≡ getD d k 0
 unfolding over
 over-past n f d k h l = table-at (length d) _ k l ∙ simp (le-ltb k n h)
+
+-- and from the equation back to the relation, where the list has so many places
+pub over-leaves : (n : ℕ) (f : ℕ → ℕ) (d : List ℕ) → n ≤ length d → Leaves d 0 n f (over n f d)
+over-leaves n f d room =
+    record {
+      long = over-long n f d;
+      new = λ k h. let front : 0 + k ≡ k = omega arith in rw front (over-in n f d k h (omega arith));
+      low = λ k h. absurd (not-suc-le-zero h);
+      high = λ k h.
+          by-order k (length d) (λ l. over-past n f d k (omega arith) l)
+          (λ l. List·getD-eq-default (over n f d) 0 (omega (arith, over-long n f d)) ∙ sym (List·getD-eq-default d 0 l));
+    }

@@ -33,7 +33,7 @@ write-dss-requires c κs =
     let h = c .before .before .before .before in
     let n = h .before in
     let s = n .before .before .before .before in
-    is-ready _ _ _ _ _ (s .pre .0) (s .pre .1) (n .announced .ensures .0) (n .announced .ensures .1) (sym (h .has-room .ensures) ∙ not-false _ (c .before .before .before .if1 .left))
+    is-ready _ _ _ _ _ (s .pre) (n .announced .ensures .0) (n .announced .ensures .1) (sym (h .has-room .ensures) ∙ not-false _ (c .before .before .before .if1 .left))
 
 same-length : tie.Need-same-length
 same-length c = search needs
@@ -55,7 +55,7 @@ write-ds2-requires c κs =
     let h = c .before .before .before .before in
     let n = h .before in
     let s = n .before .before .before .before in
-    (is-ready _ _ _ _ _ (s .pre .0) (s .pre .1) (n .announced .ensures .0) (n .announced .ensures .1) (sym (h .has-room .ensures) ∙ not-false _ (c .before .before .before .if1 .left)), n .announced .ensures .0)
+    (is-ready _ _ _ _ _ (s .pre) (n .announced .ensures .0) (n .announced .ensures .1) (sym (h .has-room .ensures) ∙ not-false _ (c .before .before .before .if1 .left)), n .announced .ensures .0)
 
 same-length-3 : tie.Need-same-length-3
 same-length-3 c = search needs

@@ -18,13 +18,13 @@ swap-flag-requires : tie.Need-swap-flag-requires
 swap-flag-requires c κs =
     let s = c .before .before .before .before .before in
     let some = some-block _ _ _ (λ none. c .before .if1 .left (s .pre .1 ∙ none)) in
-    omega (arith, some, s .pre .0 .whole)
+    omega (arith, some, s .pre .0 .readable .whole)
 
 write-run-requires : tie.Need-write-run-requires
 write-run-requires c κs =
     let s = c .before .before .before .before .before .before .before .before in
     let p = s .pre .0 in
-    (p .whole, ((search needs, omega (arith, s .pre .1, p .packets-few)), (omega (arith, s .pre .1, p .out-room), omega (arith, s .pre .1, p .counts-room))))
+    (p .readable .whole, ((search needs, omega (arith, s .pre .1, p .packets-few)), (omega (arith, s .pre .1, p .out-room), omega (arith, s .pre .1, p .counts-room))))
 
 same-length : tie.Need-same-length
 same-length c = search needs

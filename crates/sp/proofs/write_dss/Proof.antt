@@ -23,7 +23,7 @@ loop-holds c = blocks-begin _ _ _ _ _ _ _
 dss-run-requires : tie.Need-dss-run-requires Inv-loop μ-loop
 dss-run-requires c κs =
     let pre = c .before .before .before .before .before .before .pre in
-    (omega (arith, c .loop-test .taken, pre .whole), omega (arith, c .loop-test .taken, pre .blocks-few))
+    (omega (arith, c .loop-test .taken, pre .readable .whole), omega (arith, c .loop-test .taken, pre .readable .blocks-few))
 
 write-run-requires : tie.Need-write-run-requires Inv-loop μ-loop
 write-run-requires c κs =
@@ -34,9 +34,9 @@ write-run-requires c κs =
     let pre = start .pre in
     let is = r .dss-run .ensures .0 in
     let fits = block-fits _ _ _ _ _ _ _ (l .block) (l .first) (l .carry) (r .dss-run .result) (l .out) (l .counts) (i .loop-test .taken) is (l .inv) in (
-      pre .whole,
+      pre .readable .whole,
       (
-        (block-near (now (start .args .file)) (start .args .recording .start .0) (l .block) (r .dss-run .result) (omega (arith, i .loop-test .taken, pre .blocks-few)) is, omega (arith, r .dss-run .ensures .1)),
+        (block-near (now (start .args .file)) (start .args .recording .start .0) (l .block) (r .dss-run .result) (omega (arith, i .loop-test .taken, pre .readable .blocks-few)) is, omega (arith, r .dss-run .ensures .1)),
         (omega (arith, fits, l .inv .done .written .packets-are .long, pre .out-room), omega (arith, fits, l .inv .done .written .counts-are .long, pre .counts-room)),
       ),
     )

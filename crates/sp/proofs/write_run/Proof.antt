@@ -3,7 +3,6 @@
 use Prim.Native.Nat.{_-_, _*_}
 use native.Mathlib.Omega.{arith}
 use Rattle.blocks.specs.Places.{streamAt}
-use Rattle.packets.proofs.Packets.{packet-long}
 use Rattle.sp.proofs.Written.{Running, run-begins, run-goes-on, run-ends}
 use borrow.Author.Needs.{needs}
 use Rattle.sp.proofs.write_run.Statement.{statement}
@@ -35,7 +34,7 @@ put-requires c κs =
     let h = r .before .before in
     let room = h .before .before .before .before .before .before .pre .1 .1 in
     let l = h .loop .inv in
-    (packet-long _ _ _ _ _ (r .read-packet .result) (r .read-packet .ensures), (omega (arith, l .written .packets-are .long, room .0, r .before .loop-test .taken), omega (arith, l .written .counts-are .long, room .1, r .before .loop-test .taken)))
+    (omega (arith, l .written .packets-are .long, room .0, r .before .loop-test .taken), omega (arith, l .written .counts-are .long, room .1, r .before .loop-test .taken))
 
 add-n : tie.Need-add-n Inv-loop μ-loop
 add-n c = search needs
