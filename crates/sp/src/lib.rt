@@ -144,6 +144,25 @@ fn has_room(needed: usize, out: usize, counts: usize) -> bool
     needed <= tables::lesser(out / PACKET, counts)
 }
 
+// Hands out a recording that announces so many packets, and for which there is room.
+fn hand_out(
+    file: &[u8],
+    recording: Recording,
+    dss: bool,
+    needed: usize,
+    out: &mut [u8],
+    counts: &mut [u8],
+)
+    requires { ⌜ Ready (now file) recording (now out) (now counts) × (needed ≡ announcedBy (now file) recording) ⌝ }
+    ensures { λ _. ⌜ Written (readingOf (now (file .entry)) recording (cond dss dssRuns ds2Runs)) (now (out .entry)) (now (out .exit)) (now (counts .entry)) (now (counts .exit)) ⌝ }
+{
+    if dss {
+        write_dss(file, recording, out, counts);
+        return;
+    }
+    write_ds2(file, recording, needed, out, counts);
+}
+
 // Hands out a recording if there is room for all its packets.
 fn read(file: &[u8], recording: Recording, dss: bool, out: &mut [u8], counts: &mut [u8]) -> Demuxed
     requires { ⌜ Readable (now file) recording ⌝ }
@@ -153,11 +172,7 @@ fn read(file: &[u8], recording: Recording, dss: bool, out: &mut [u8], counts: &m
     if !has_room(needed, out.len(), counts.len()) {
         return Demuxed::Refused(Refusal::room(needed));
     }
-    if dss {
-        write_dss(file, recording, out, counts);
-        return Demuxed::Packets(needed);
-    }
-    write_ds2(file, recording, needed, out, counts);
+    hand_out(file, recording, dss, needed, out, counts);
     Demuxed::Packets(needed)
 }
 

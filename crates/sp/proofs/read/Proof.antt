@@ -1,7 +1,7 @@
--- `sp::read` meets its contract: by the ways of a call, in DSS and in DS2.
+-- `sp::read` meets its contract: it refuses for want of room, or writes all.
 -- Assumes nothing.
 use mathlib.Core.Path.{sym, _∙_}
-use mathlib.Core.Bool.{cond, true, false}
+use mathlib.Core.Bool.{cond}
 use denote.Ref.{now}
 use borrow.Author.Tests.{not-true, not-false}
 use Rattle.sp.specs.ReadLists.{dssRuns, ds2Runs}
@@ -26,14 +26,15 @@ returns c =
     let h = c .before .before in
     let n = h .before in
     let a = n .before .before .before .before .args in
-    rw (c .room .ensures) (no-room (readingOf (now (a .file)) (a .recording) (cond (a .dss) dssRuns ds2Runs)) _ _ _ (n .announced .ensures .0 ∙ sym (packets-announced (a .dss) _ _ _)) (sym (h .has-room .ensures) ∙ not-true _ (c .before .if1 .taken)))
+    rw (c .room .ensures)
+    (no-room (readingOf (now (a .file)) (a .recording) (cond (a .dss) dssRuns ds2Runs)) _ _ _ (n .announced .ensures .0 ∙ sym (packets-announced (a .dss) _ _ _)) (sym (h .has-room .ensures) ∙ not-true _ (c .before .if1 .taken)))
 
-write-dss-requires : tie.Need-write-dss-requires
-write-dss-requires c κs =
-    let h = c .before .before .before .before in
+hand-out-requires : tie.Need-hand-out-requires
+hand-out-requires c κs =
+    let h = c .before .before .before in
     let n = h .before in
     let s = n .before .before .before .before in
-    is-ready _ _ _ _ _ (s .pre) (n .announced .ensures .0) (n .announced .ensures .1) (sym (h .has-room .ensures) ∙ not-false _ (c .before .before .before .if1 .left))
+    (is-ready _ _ _ _ _ (s .pre) (n .announced .ensures .0) (n .announced .ensures .1) (sym (h .has-room .ensures) ∙ not-false _ (c .before .before .if1 .left)), n .announced .ensures .0)
 
 same-length : tie.Need-same-length
 same-length c = search needs
@@ -45,32 +46,10 @@ returns-2 : tie.Need-returns-2
 returns-2 c =
     let w = c .before .before .before .before in
     let t = w .before .before .before in
-    let h = t .before .before in
+    let h = t .before in
     let n = h .before in
     let a = n .before .before .before .before .args in
-    rw (t .if2 .taken) (with-room (readingOf (now (a .file)) (a .recording) dssRuns) _ _ _ (n .announced .ensures .0 ∙ sym (packets-announced true _ _ _)) _ _ (sym (h .has-room .ensures) ∙ not-false _ (t .before .if1 .left)) (w .write-dss .ensures))
-
-write-ds2-requires : tie.Need-write-ds2-requires
-write-ds2-requires c κs =
-    let h = c .before .before .before .before in
-    let n = h .before in
-    let s = n .before .before .before .before in
-    (is-ready _ _ _ _ _ (s .pre) (n .announced .ensures .0) (n .announced .ensures .1) (sym (h .has-room .ensures) ∙ not-false _ (c .before .before .before .if1 .left)), n .announced .ensures .0)
-
-same-length-3 : tie.Need-same-length-3
-same-length-3 c = search needs
-
-same-length-4 : tie.Need-same-length-4
-same-length-4 c = search needs
-
-returns-3 : tie.Need-returns-3
-returns-3 c =
-    let w = c .before .before .before .before in
-    let t = w .before .before .before in
-    let h = t .before .before in
-    let n = h .before in
-    let a = n .before .before .before .before .args in
-    rw (t .if2 .left) (with-room (readingOf (now (a .file)) (a .recording) ds2Runs) _ _ _ (n .announced .ensures .0 ∙ sym (packets-announced false _ _ _)) _ _ (sym (h .has-room .ensures) ∙ not-false _ (t .before .if1 .left)) (w .write-ds2 .ensures))
+    with-room (readingOf (now (a .file)) (a .recording) (cond (a .dss) dssRuns ds2Runs)) _ _ _ (n .announced .ensures .0 ∙ sym (packets-announced (a .dss) _ _ _)) _ _ (sym (h .has-room .ensures) ∙ not-false _ (t .if1 .left)) (w .hand-out .ensures)
 
 pub read-spec : {M : Type 1} → statement M
 read-spec =
@@ -80,11 +59,7 @@ read-spec =
     has-room-requires
     room-requires
     returns
-    write-dss-requires
+    hand-out-requires
     same-length
     same-length-2
-    returns-2
-    write-ds2-requires
-    same-length-3
-    same-length-4
-    returns-3)
+    returns-2)
