@@ -4,6 +4,7 @@ use Prim.Native.Nat.{ℕ, _*_, _≤_, _<_}
 use mathlib.Core.Path.{_≡_, refl, ap, _∙_, subst, sym}
 use mathlib.Core.List.{List}
 use mathlib.Core.Bool.{Bool, true, false}
+use mathlib.Core.Logic.{_⊎_, inl, inr, ⊎-elim}
 use native.Mathlib.Omega.{arith}
 use borrow.Author.Tests.{leb-true, le-leb, lt-leb, lt-ltb}
 use lib.ListN.{length, getD}
@@ -75,16 +76,22 @@ sound-at f a rec e =
     let r = recorded f a rec e in
     subst (Sound f) (r .0) (record { whole = omega (arith, r .2); all = refl; within = r .1 })
 
-sound-by : (m : Magic) (f : List ℕ) (dss ds2 : Bool) (rec : Recording) → admissionBy m f dss ds2 ≡ answers rec → Sound f rec
-sound-by Dss f dss ds2 rec e = sound-at f _ rec (passed dss _ _ _ e .1)
-sound-by Ds2 f dss ds2 rec e = sound-at f _ rec (passed ds2 _ _ _ e .1)
-sound-by Encrypted f dss ds2 rec e = absurd (not-both e)
-sound-by Grundig f dss ds2 rec e = absurd (not-both e)
-sound-by Other f dss ds2 rec e = absurd (not-both e)
+-- a recording was admitted at DSS's start by a call that takes DSS, or at DS2's by one that takes DS2
+admitted-by : (m : Magic) (f : List ℕ) (dss ds2 : Bool) (rec : Recording) → admissionBy m f dss ds2 ≡ answers rec
+    → ((dss ≡ true) × (admissionAt f (512 * getD f 0 0) ≡ answers rec)) ⊎ ((ds2 ≡ true) × (admissionAt f (audioStart f) ≡ answers rec))
+admitted-by Dss f dss ds2 rec e = inl (passed dss _ _ _ e)
+admitted-by Ds2 f dss ds2 rec e = inr (passed ds2 _ _ _ e)
+admitted-by Encrypted f dss ds2 rec e = absurd (not-both e)
+admitted-by Grundig f dss ds2 rec e = absurd (not-both e)
+admitted-by Other f dss ds2 rec e = absurd (not-both e)
+
+not-taken : false ≡ true → ⊥
+not-taken e = let never : _≡_ {A = ℕ} 0 1 = cc in omega arith
 
 pub sound : (f : List ℕ) (dss ds2 : Bool) (rec : Recording) → admission f dss ds2 ≡ answers rec → Sound f rec
 unfolding admission
-sound f dss ds2 rec e = sound-by (magicOf f) f dss ds2 rec e
+sound f dss ds2 rec e =
+    ⊎-elim (λ w. sound-at f _ rec (w .1)) (λ w. sound-at f _ rec (w .1)) (admitted-by (magicOf f) f dss ds2 rec e)
 
 -- a file of a magic that the call takes
 pub dss-at : (f : List ℕ) → magicOf f ≡ Dss → admission f true false ≡ admissionAt f (512 * getD f 0 0)
@@ -96,27 +103,15 @@ unfolding admission
 ds2-at f e = rw e
 
 -- where the audio of a recording starts
-dss-by : (m : Magic) (f : List ℕ) (rec : Recording) → admissionBy m f true false ≡ answers rec → recordingAt f (512 * getD f 0 0) ≡ rec
-dss-by Dss f rec e = recorded f _ rec e .0
-dss-by Ds2 f rec e = absurd (not-both e)
-dss-by Encrypted f rec e = absurd (not-both e)
-dss-by Grundig f rec e = absurd (not-both e)
-dss-by Other f rec e = absurd (not-both e)
-
-ds2-by : (m : Magic) (f : List ℕ) (rec : Recording) → admissionBy m f false true ≡ answers rec → recordingAt f (audioStart f) ≡ rec
-ds2-by Dss f rec e = absurd (not-both e)
-ds2-by Ds2 f rec e = recorded f _ rec e .0
-ds2-by Encrypted f rec e = absurd (not-both e)
-ds2-by Grundig f rec e = absurd (not-both e)
-ds2-by Other f rec e = absurd (not-both e)
-
 pub dss-recording : (f : List ℕ) (rec : Recording) → admission f true false ≡ answers rec → recordingAt f (512 * getD f 0 0) ≡ rec
 unfolding admission
-dss-recording f rec e = dss-by (magicOf f) f rec e
+dss-recording f rec e =
+    ⊎-elim (λ w. recorded f _ rec (w .1) .0) (λ w. absurd (not-taken (w .0))) (admitted-by (magicOf f) f true false rec e)
 
 pub ds2-recording : (f : List ℕ) (rec : Recording) → admission f false true ≡ answers rec → recordingAt f (audioStart f) ≡ rec
 unfolding admission
-ds2-recording f rec e = ds2-by (magicOf f) f rec e
+ds2-recording f rec e =
+    ⊎-elim (λ w. absurd (not-taken (w .0))) (λ w. recorded f _ rec (w .1) .0) (admitted-by (magicOf f) f false true rec e)
 
 -- under 4 bytes nothing is taken
 pub four-bytes : (f : List ℕ) (dss ds2 : Bool) (rec : Recording) → admission f dss ds2 ≡ answers rec → 4 ≤ length f

@@ -16,7 +16,7 @@ use Rattle.sp.specs.ReadLists.{dssRun, dssRuns}
 use Rattle.sp.specs.Written.{RunWritten, Written}
 use Rattle.sp.proofs.Runs.{packets-none, packets-of, packets-joined, carryPast, carry-none, carry-joined, carry-one}
 use Rattle.sp.proofs.ReadLists.{runs-none, runs-more, runs-same, dss-packets}
-use Rattle.sp.proofs.Written.{by, written-none, written-same, written-more}
+use Rattle.sp.proofs.Written.{by, written-none, written-without, written-more}
 
 -- a block starts near enough
 pub block-near : (f : List ℕ) (a b : ℕ) (run : Run) → b ≤ 2 ^ 32 → run ≡ dssRun f a b → run .start .0 ≤ 2 ^ 48
@@ -51,6 +51,7 @@ module _ (f : List ℕ) (a blocks : ℕ) (s : ℕ → ℕ) (long : ℕ) (out cou
               (subst (λ (c : ℕ). RunWritten s long (runBegin c run) first (countOf f a b) out₁ out₂ counts₁ counts₂ carry′) (v .carried) r);
         }
 
+    -- a silent block's run has no packets, and carries on what it was given
     with-none : countOf f a b ≤ 0 → After (dssRuns f a b) (first + countOf f a b) carry′ out₂ counts₂
     with-none none =
         let w = runBegin carry (dssRun f a b) in
@@ -62,9 +63,7 @@ module _ (f : List ℕ) (a blocks : ℕ) (s : ℕ → ℕ) (long : ℕ) (out cou
               ∙ ap (λ (k : ℕ). steps s w k .carry) zero
               ∙ ap (λ (u : Walk). u .carry) (steps-none s w)
               ∙ v .carried;
-          written =
-              written-same s long out counts (dssRuns f a b) w out₁ out₂ counts₁ counts₂ first (countOf f a b) carry′ (v .so-far) none
-              (v .written) r;
+          written = written-without s long out out₂ counts counts₂ (dssRuns f a b) (dssRun f a b) none (with-run .written);
         }
 
     one-more : After (dssRuns f a (b + 1)) (first + countOf f a b) carry′ out₂ counts₂

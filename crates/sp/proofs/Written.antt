@@ -4,7 +4,6 @@ use Prim.Native.Nat.{ℕ, _+_, _*_, _-_, _/_, _%_, _≤_, _<_}
 use mathlib.Core.Path.{_≡_, sym, ap, _∙_, subst}
 use mathlib.Core.List.{List, [], _∷_, _++_}
 use mathlib.Core.Bool.{not}
-use native.Mathlib.Nat.{not-suc-le-zero}
 use native.Mathlib.Omega.{arith}
 use lib.ListN.{getD}
 use Rattle.tables.specs.Lent.{Leaves}
@@ -105,28 +104,6 @@ module _ (s : ℕ → ℕ) (long : ℕ) (out counts : List ℕ) where
         counts-are = leaves-to (sym packets-none) (leaves-none counts 0 (fileCountAt (by [])));
       }
 
-  -- a run of no packets leaves everything as it was
-  pub written-same : (runs : List Run) (w : Walk) (out₁ out₂ counts₁ counts₂ : List ℕ) (base count carry : ℕ) → base ≡ packetsIn runs
-      → count ≤ 0
-      → Written (by runs) out out₁ counts counts₁
-      → RunWritten s long w base count out₁ out₂ counts₁ counts₂ carry
-      → Written (by runs) out out₂ counts counts₂
-  written-same runs w out₁ out₂ counts₁ counts₂ base count carry at none so-far r =
-      record {
-        packets-are =
-            leaves-to (omega (arith, at))
-            (leaves-join out 0 (42 * base) (42 * count) (joinedByteAt (by runs)) (joinedAt s w) out₁ out₂
-            (leaves-to (omega (arith, at)) (so-far .packets-are))
-            (subst (λ (to : ℕ). Leaves out₁ to (42 * count) (joinedAt s w) out₂) (omega arith) (r .packets-are))
-            (λ k h. let never : k < 0 = omega arith in absurd (not-suc-le-zero never)));
-        counts-are =
-            leaves-to (omega (arith, at))
-            (leaves-join counts 0 base count (fileCountAt (by runs)) (λ k. countAt long (steps s w k)) counts₁ counts₂
-            (leaves-to (sym at) (so-far .counts-are))
-            (subst (λ (to : ℕ). Leaves counts₁ to count (λ k. countAt long (steps s w k)) counts₂) (omega arith) (r .counts-are))
-            (λ k h. let never : k < 0 = omega arith in absurd (not-suc-le-zero never)));
-      }
-
   -- one run more, which goes on with what the others carried
   pub written-more : (runs : List Run) (run : Run) (out₁ out₂ counts₁ counts₂ : List ℕ) (base carry : ℕ) → base ≡ packetsIn runs
       → Written (by runs) out out₁ counts counts₁
@@ -176,6 +153,23 @@ module _ (s : ℕ → ℕ) (long : ℕ) (out counts : List ℕ) where
           joined-is s begin j
           ∙ ap (λ (u : Walk). byteOf s u (j % 42)) (here (j / 42) (omega arith) ∙ ap (standsAt s 0 more) number)
           ∙ ap (byteOf s (standsAt s 0 more ((42 * base + j) / 42))) byte
+
+-- a last run of no packets may as well not be there
+pub written-without : (s : ℕ → ℕ) (long : ℕ) (out out′ counts counts′ : List ℕ) (runs : List Run) (run : Run) → run .count ≤ 0
+    → Written (by s long out counts (runs ++ (run ∷ []))) out out′ counts counts′ → Written (by s long out counts runs) out out′ counts counts′
+written-without s long out out′ counts counts′ runs run none w =
+    record {
+      packets-are =
+          leaves-as (joinedByteAt (by s long out counts runs))
+          (λ j h. ap (λ (u : Walk). byteOf s u (j % 42)) (stands-before s 0 runs (run ∷ []) (j / 42) (omega arith)))
+          (leaves-to (omega (arith, all)) (w .packets-are));
+      counts-are =
+          leaves-as (fileCountAt (by s long out counts runs)) (λ k h. ap (countAt long) (stands-before s 0 runs (run ∷ []) k h))
+          (leaves-to all (w .counts-are));
+    }
+  where
+    all : packetsIn (runs ++ (run ∷ [])) ≡ packetsIn runs
+    all = omega (arith, packets-joined runs (run ∷ []), packets-of run [], packets-none)
 
 -- a reading of no packets
 pub written-nothing : (reading : Reading) (out counts : List ℕ) → total reading ≡ 0 → Written reading out out counts counts

@@ -1,5 +1,5 @@
--- What a run leaves in the two lent buffers, after so many packets that stand there already; and what a whole reading leaves.
--- Assumes nothing.
+-- What a run leaves in the two lent buffers, after so many packets that stand there already; what a whole reading leaves; and what is
+-- asked before a recording is read and written. Assumes nothing.
 use Prim.Native.Nat.{ℕ, _*_, _^_, _≤_}
 use mathlib.Core.Path.{_≡_}
 use mathlib.Core.List.{List}
