@@ -1,11 +1,15 @@
 -- A block's header: byte 0 bit 7 is the swap flag, byte 1 gives the first frame's place, byte 2 is the count of announced frames,
 -- byte 4 is the type. And the sum of the counts. Assumes nothing.
-use Prim.Native.Nat.{ℕ, zero, suc, _+_}
+use Prim.Native.Nat.{ℕ, zero, suc, _+_, _≤_}
 use mathlib.Core.List.{List}
 use mathlib.Core.Bool.{Bool}
 use lib.ListN.{getD}
 use lib.Dec.{leb}
 use Rattle.blocks.specs.Places.{blockAt}
+
+-- a file is a list of bytes: so the language has it of every lent one
+abbrev pub Bytes : List ℕ → Type 0
+Bytes f = (i : ℕ) → getD f i 0 ≤ 255
 
 -- byte i of the header of block b
 abbrev pub headerByte : List ℕ → ℕ → ℕ → ℕ → ℕ

@@ -2,7 +2,7 @@
 // Every function here is for the crates above. Rests on tables.
 ghost use mathlib.Core.Path.{_≡_};
 ghost use Prim.Native.Nat.{_+_, _*_, _<_, _≤_, _^_};
-ghost use Rattle.blocks.specs.Places.{wholeBlocks, Whole, fileOf, payloadOf};
+ghost use Rattle.blocks.specs.Places.{wholeBlocks, Whole, fileOf, streamAt, payloadOf};
 ghost use Rattle.blocks.specs.Headers.{headerByte, swapOf, countOf, announcedIn};
 
 pub const BLOCK: usize = 512;
@@ -78,6 +78,16 @@ pub fn announced(file: &[u8], a: FilePlace, blocks: usize) -> usize
         block += 1;
     }
     sum
+}
+
+// The byte at a place of the payload stream of so many whole blocks.
+pub fn stream_byte(file: &[u8], a: FilePlace, blocks: usize, q: StreamPlace) -> u8
+    requires { ⌜ Whole (now file) (a .0) blocks × (q .0 < 506 * blocks) ⌝ }
+    ensures { λ r. ⌜ r ≡ streamAt (now (file .entry)) (a .0) blocks (q .0) ⌝ }
+{
+    let place = in_file(a, q);
+    let at = place.0;
+    file[at]
 }
 
 // The payload of a whole block, as those bytes of the file itself.

@@ -93,6 +93,10 @@ unfolding admission
 sound f dss ds2 rec e =
     ⊎-elim (λ w. sound-at f _ rec (w .1)) (λ w. sound-at f _ rec (w .1)) (admitted-by (magicOf f) f dss ds2 rec e)
 
+-- it has at most as many blocks as the limit allows
+pub few-blocks : (f : List ℕ) (rec : Recording) → Sound f rec → rec .blocks ≤ 524288
+few-blocks f rec s = omega (arith, s .all, s .within)
+
 -- a file of a magic that the call takes
 pub dss-at : (f : List ℕ) → magicOf f ≡ Dss → admission f true false ≡ admissionAt f (512 * getD f 0 0)
 unfolding admission

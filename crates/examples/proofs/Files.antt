@@ -1,6 +1,6 @@
 -- The examples that speak of every file of some magic and length.
 -- Assumes nothing.
-use Prim.Native.Nat.{ℕ, _+_, _*_, _≤_, _<_}
+use Prim.Native.Nat.{ℕ, _+_, _*_, _-_, _≤_, _<_}
 use mathlib.Core.Path.{_≡_, refl, sym, ap, _∙_}
 use mathlib.Core.List.{List}
 use mathlib.Core.Bool.{true, false}
@@ -16,6 +16,7 @@ use Rattle.magic.specs.declared.Magic.the-variants.{Ds2}
 use Rattle.magic.specs.Magics.{spells, ds2By, magicOf}
 use Rattle.refusals.specs.Said.{answers, refuses}
 use Rattle.detect.specs.declared.Recording.{Recording}
+use Rattle.detect.specs.declared.Kind.{Kind}
 use Rattle.detect.specs.declared.Kind.the-variants.{Sp}
 use Rattle.detect.specs.Header.{goodHeader}
 use Rattle.detect.specs.Start.{audioStart}
@@ -30,7 +31,7 @@ use Rattle.sp.specs.Readings.{Reading, fileCountAt, readingOf, ds2Reading}
 use Rattle.sp.specs.ReadLists.{ds2Runs}
 use Rattle.sp.proofs.ReadLists.{ds2-packets}
 use Rattle.sp.proofs.Theorems.{ds2-bare, ds2-cut, ds2-reads-at}
-use Rattle.examples.specs.Bench.{BeginsDs2, ds2Answer, Example1, Example3, Example6}
+use Rattle.examples.specs.Bench.{BeginsDs2, Ds2File, ds2Answer, Example1, Example3, Example6}
 
 -- a file that begins so, and is long enough, is a DS2 file
 is-ds2 : (byte : ℕ) (f : List ℕ) → BeginsDs2 byte f → ds2By byte ≡ Ds2 → 4 ≤ length f → magicOf f ≡ Ds2
@@ -77,40 +78,47 @@ three-holds f room begins none = (
   (λ long. bare 7 4096 f room begins known-7 (start-7 f begins none) long (omega arith) (omega arith)),
 )
 
--- one block
-module _ (f : List ℕ) (begins : BeginsDs2 1 f) (one : wholeBlocks (length f) 1536 ≡ 1) (flag : swapOf f 1536 0 ≡ false) (thirteen : countOf f 1536 0 ≡ 13)
-    (sp : typeOf f 1536 0 < 6) where
-  abbrev rec : Recording
-  rec = record { start = record { 0 = 1536 }; blocks = 1 }
+-- the recording of such a file
+abbrev pub recordingOf : ℕ → Recording
+recordingOf blocks = record { start = record { 0 = 1536 }; blocks = blocks }
 
+type-first : (f : List ℕ) (blocks : ℕ) → 0 < wholeBlocks (length f) 1536 → 0 < countOf f 1536 0 → typeIn f (recordingOf blocks) ≡ typeOf f 1536 0
+unfolding formatType
+type-first f blocks some announces =
+    type-here f 1536 (wholeBlocks (length f) 1536) 0 (wholeBlocks (length f) 1536 - 1) (omega (arith, some)) announces
+
+pub taken-as : (kind : Kind) (blocks : ℕ) (f : List ℕ) → 1 ≤ blocks → blocks ≤ 2 → Ds2File kind blocks f
+    → ds2Admission f kind ≡ answers (recordingOf blocks)
+taken-as kind blocks f some few file =
+    sym (ds2-goes-on f kind (recordingOf blocks) (sym taken)) ∙ sym (of-that-kind f kind (recordingOf blocks) (typeOf f 1536 0) (sym type-is) (file .type-is))
+  where
+    long : (2048 ≤ length f) × (length f < 3072)
+    long = (omega (arith, file .whole, some), omega (arith, file .whole, few))
+
+    taken : admission f false true ≡ answers (recordingOf blocks)
+    taken =
+        ds2-at f (is-ds2 1 f (file .begins) known-1 (omega (arith, long)))
+        ∙ ap (admissionAt f) (start-1 f (file .begins))
+        ∙ sym (admitted f true 1536 refl (omega (arith, long)) (omega (arith, long)) blocks (sym (file .whole)))
+
+    type-is : typeIn f (recordingOf blocks) ≡ typeOf f 1536 0
+    type-is = type-first f blocks (omega (arith, long)) (file .announces)
+
+-- one SP block
+module _ (f : List ℕ) (file : Ds2File Sp 1 f) (flag : swapOf f 1536 0 ≡ false) (thirteen : countOf f 1536 0 ≡ 13) where
   abbrev r : Reading
-  r = readingOf f rec ds2Runs
-
-  taken : admission f false true ≡ answers rec
-  taken =
-      ds2-at f (is-ds2 1 f begins known-1 (omega arith)) ∙ ap (admissionAt f) (start-1 f begins)
-      ∙ sym (admitted f true 1536 refl (omega arith) (omega arith) 1 (sym one))
-
-  type-is : typeIn f rec ≡ typeOf f 1536 0
-  unfolding formatType
-  type-is = type-here f 1536 (wholeBlocks (length f) 1536) 0 0 (omega arith) (omega arith)
-
-  is-sp : readAs (typeOf f 1536 0) Sp ≡ true
-  is-sp = sp-is-0-to-5 (typeOf f 1536 0) ∙ lt-ltb (typeOf f 1536 0) 6 sp
+  r = readingOf f (recordingOf 1) ds2Runs
 
   reads : ds2Reading f ≡ answers r
   unfolding ds2Reading
-  reads =
-      let kind : ds2Admission f Sp ≡ answers rec =
-      sym (ds2-goes-on f Sp rec (sym taken)) ∙ sym (of-that-kind f Sp rec (typeOf f 1536 0) (sym type-is) is-sp) in
-      rw kind
+  reads = rw (taken-as Sp 1 f (omega arith) (omega arith) file)
 
   announced : announcedIn f 1536 1 ≡ 13
   announced = announced-more f 1536 0 ∙ omega (arith, announced-none f 1536)
 
   counted : (k : ℕ) → k < 13 → fileCountAt r k ≡ fileCount 506 (parity false k) (reach false k)
   counted k h =
-      let at = ds2-reads-at f rec k (omega (arith, announced)) in
+      let at = ds2-reads-at f (recordingOf 1) k (omega (arith, announced)) in
       cc (at .0, at .1, flag)
 
   all-counts : table 13 (fileCountAt r) ≡ table 13 (λ k. fileCount 506 (parity false k) (reach false k))
@@ -125,10 +133,10 @@ unfolding table sum fileCount
 all-of-it = refl
 
 pub six-holds : Example6
-six-holds f begins one flag thirteen sp = (
-  r f begins one flag thirteen sp,
-  reads f begins one flag thirteen sp,
-  ds2-packets f 1536 1 ∙ announced f begins one flag thirteen sp,
-  counted f begins one flag thirteen sp 12 (omega arith) ∙ last-short,
-  ap sum (all-counts f begins one flag thirteen sp) ∙ all-of-it,
+six-holds f file flag thirteen = (
+  r f file flag thirteen,
+  reads f file flag thirteen,
+  ds2-packets f 1536 1 ∙ announced f file flag thirteen,
+  counted f file flag thirteen 12 (omega arith) ∙ last-short,
+  ap sum (all-counts f file flag thirteen) ∙ all-of-it,
 )

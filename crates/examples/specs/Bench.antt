@@ -7,13 +7,20 @@ use mathlib.Core.Bool.{true, false}
 use lib.ListN.{length, getD, take, drop}
 use Rattle.tables.specs.Table.{table, sum}
 use Rattle.blocks.specs.Places.{wholeBlocks}
-use Rattle.blocks.specs.Headers.{swapOf, countOf, typeOf}
+use Rattle.blocks.specs.Headers.{flagOf, swapOf, firstOf, countOf, typeOf}
 use Rattle.refusals.specs.Said.{Said, answers, refuses}
+use Rattle.detect.specs.declared.Kind.{Kind}
+use Rattle.detect.specs.declared.Kind.the-variants.{Sp, Qp, Qp7}
 use Rattle.detect.specs.Header.{goodHeader}
+use Rattle.detect.specs.Kinds.{readAs}
 use Rattle.packets.specs.Packet.{packetByte}
 use Rattle.packets.specs.Start.{dssStart}
 use Rattle.sp.specs.Readings.{Reading, total, fileCountAt, ds2Reading}
 use Rattle.sp.specs.Outcome.{inRoom, answered}
+use Rattle.qp.specs.declared.Segment.{Segment}
+use Rattle.qp.specs.Segments as qp
+use Rattle.qp.specs.Segments.{qpReading}
+use Rattle.qp.specs.Outcome.{entryOf}
 
 -- a file that begins with this byte and `ds2`
 pub record BeginsDs2 (byte : ℕ) (f : List ℕ) : Type 0 where
@@ -32,6 +39,25 @@ Example1 =
     (f : List ℕ) (room : ℕ) → BeginsDs2 1 f
     → (length f ≡ 1536 → ds2Answer f room ≡ answers 0) × (length f ≡ 1535 → ds2Answer f room ≡ refuses 3 1536)
 
+-- a `\x01ds2` file of so many whole blocks, of which the first announces something and has a type that is read as this kind
+pub record Ds2File (kind : Kind) (blocks : ℕ) (f : List ℕ) : Type 0 where
+  pub begins : BeginsDs2 1 f
+  pub whole : wholeBlocks (length f) 1536 ≡ blocks
+  pub announces : 0 < countOf f 1536 0
+  pub type-is : readAs (typeOf f 1536 0) kind ≡ true
+
+-- 2: every QP file of two blocks, the first with byte 1 = 3: if that announces 10 and the second has byte 1 = 30, there is one segment,
+-- whatever the second announces. If it announces 9 and the second has byte 1 = 3, there are two if the second announces anything and
+-- one if not, and (0, 504, 9, 0) is the first
+abbrev pub Example2 : Type 0
+Example2 =
+    (f : List ℕ) → Ds2File Qp 2 f → firstOf f 1536 0 ≡ 3
+    → (r : qp.Reading) × (qpReading f ≡ answers r)
+    × (countOf f 1536 0 ≡ 10 → firstOf f 1536 1 ≡ 30 → length (r .segments) ≡ 1)
+    × (countOf f 1536 0 ≡ 9 → firstOf f 1536 1 ≡ 3
+    → (0 < countOf f 1536 1 → length (r .segments) ≡ 2) × (countOf f 1536 1 ≡ 0 → length (r .segments) ≡ 1)
+    × ((none : Segment) → entryOf (getD (r .segments) 0 none) ≡ 0 ∷ 504 ∷ 9 ∷ 0 ∷ []))
+
 -- 3: every `\x07ds2` file with no good header at a multiple of 512 is refused by 3 with 4096 if it has 4095 bytes, and is empty if it
 -- has 4096
 abbrev pub Example3 : Type 0
@@ -46,11 +72,11 @@ swappedRead = table 42 (packetByte true 99 (λ j. j))
 abbrev pub Example4 : Type 0
 Example4 = (take 6 swappedRead ≡ 1 ∷ 99 ∷ 3 ∷ 0 ∷ 5 ∷ 2 ∷ []) × (drop 38 swappedRead ≡ 39 ∷ 36 ∷ 0 ∷ 38 ∷ [])
 
--- 6: every `\x01ds2` file of one whole block, with flag 0, count 13 and an SP type, reads as 13 packets, of which the last has count
--- 14, and the counts add up to 506
+-- 6: every SP file of one block, with flag 0 and count 13, reads as 13 packets, of which the last has count 14, and the counts add up to
+-- 506
 abbrev pub Example6 : Type 0
 Example6 =
-    (f : List ℕ) → BeginsDs2 1 f → wholeBlocks (length f) 1536 ≡ 1 → swapOf f 1536 0 ≡ false → countOf f 1536 0 ≡ 13 → typeOf f 1536 0 < 6
+    (f : List ℕ) → Ds2File Sp 1 f → swapOf f 1536 0 ≡ false → countOf f 1536 0 ≡ 13
     → (r : Reading) × (ds2Reading f ≡ answers r) × (total r ≡ 13) × (fileCountAt r 12 ≡ 14) × (sum (table 13 (fileCountAt r)) ≡ 506)
 
 -- 7: the DSS start in block 0 with flag 1 is 506 for byte 1 = 255, 0 for 2, and 2 for 3
@@ -64,7 +90,7 @@ pub record Example : Type 1 where
 
 abbrev pub bench : List Example
 bench =
-    record { number = 1; says = Example1 } ∷ record { number = 3; says = Example3 } ∷ record { number = 4; says = Example4 }
+    record { number = 1; says = Example1 } ∷ record { number = 2; says = Example2 } ∷ record { number = 3; says = Example3 } ∷ record { number = 4; says = Example4 }
     ∷ record { number = 6; says = Example6 } ∷ record { number = 7; says = Example7 } ∷ []
 
 -- every example of a table holds

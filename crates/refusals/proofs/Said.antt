@@ -16,6 +16,12 @@ pub passed : {A : Type 0} {a : A} (test : Bool) (number beside : ℕ) (rest : Sa
 passed true number beside rest e = (refl, e)
 passed false number beside rest e = absurd (not-both e)
 
+-- a call answers or refuses: what a proof by cases goes by
+pub by-said : {A X : Type 0} (said : Said A) → ((a : A) → said ≡ answers a → X)
+    → ((number beside : ℕ) → said ≡ refuses number beside → X) → X
+by-said (answers a) answered refused = answered a refl
+by-said (refuses number beside) answered refused = refused number beside refl
+
 -- where what an enum's value says can be read back, two values that say the same are the same
 pub only-one : {E A : Type 0} (says : E → Said A) (read : Said A → E) → ((x : E) → read (says x) ≡ x)
     → (x y : E) (said : Said A) → says x ≡ said → says y ≡ said → x ≡ y

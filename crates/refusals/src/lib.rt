@@ -1,6 +1,7 @@
 // Refusal numbers: why a call refuses, as a number and the number beside it. One type for every call of the project, and
 // a function for each cause that is given so far. Every function here is for the crates above. Rests on blocks, for the places.
 use blocks::FilePlace;
+use blocks::StreamPlace;
 ghost use mathlib.Core.Path.{_≡_};
 ghost use Rattle.refusals.specs.Numbers.{numbered};
 
@@ -40,12 +41,42 @@ impl Refusal {
         }
     }
 
+    // A record cannot be told: fewer than 2 bytes are left at this place of the stream.
+    pub fn selector(at: StreamPlace) -> Self
+        ensures { λ r. ⌜ r ≡ numbered 4 (at .0) ⌝ }
+    {
+        Self {
+            number: 4,
+            beside: at.0 as u64,
+        }
+    }
+
+    // The record at this place runs past the stream.
+    pub fn record(at: StreamPlace) -> Self
+        ensures { λ r. ⌜ r ≡ numbered 5 (at .0) ⌝ }
+    {
+        Self {
+            number: 5,
+            beside: at.0 as u64,
+        }
+    }
+
     // The packets or records are so many, and there is room for fewer.
     pub fn room(needed: usize) -> Self
         ensures { λ r. ⌜ r ≡ numbered 8 needed ⌝ }
     {
         Self {
             number: 8,
+            beside: needed as u64,
+        }
+    }
+
+    // The segments are so many, and the table has room for fewer.
+    pub fn segments(needed: usize) -> Self
+        ensures { λ r. ⌜ r ≡ numbered 9 needed ⌝ }
+    {
+        Self {
+            number: 9,
             beside: needed as u64,
         }
     }

@@ -46,11 +46,15 @@ leaves-next d n f e v room value w =
     let front : 0 + n ≡ n = omega arith in
     subst (λ (j : ℕ). Leaves d 0 (n + 1) f (set e j v)) front (leaves-more d 0 n f e v (omega arith) value w)
 
+-- the first of several
+pub leaves-first : (d : List ℕ) (a : ℕ) (f : ℕ → ℕ) (v : ℕ) → a < length d → v ≡ f 0 → Leaves d a 1 f (set d a v)
+leaves-first d a f v room value =
+    let there : a + 0 ≡ a = omega arith in
+    subst (λ (j : ℕ). Leaves d a 1 f (set d j v)) there (leaves-more d a 0 f d v (omega arith) value (leaves-none d a f))
+
 -- a single element
 pub leaves-one : (d : List ℕ) (a v : ℕ) → a < length d → Leaves d a 1 (λ k. v) (set d a v)
-leaves-one d a v room =
-    let there : a + 0 ≡ a = omega arith in
-    subst (λ (j : ℕ). Leaves d a 1 (λ k. v) (set d j v)) there (leaves-more d a 0 (λ k. v) d v (omega arith) refl (leaves-none d a (λ k. v)))
+leaves-one d a v room = leaves-first d a (λ k. v) v room refl
 
 -- a part that follows a part
 pub leaves-join : (d : List ℕ) (a m n : ℕ) (f g : ℕ → ℕ) (e e′ : List ℕ) → Leaves d a m f e → Leaves e (a + m) n g e′

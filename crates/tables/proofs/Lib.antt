@@ -1,6 +1,7 @@
 -- The laws and theorems that belong to no one function. They rest on the definitions in specs/.
 pub mod Cases
 pub mod Lent
+pub mod Entries
 pub mod Parts
 pub mod Table
 pub mod Tests

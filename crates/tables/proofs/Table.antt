@@ -1,13 +1,13 @@
 -- A list written from a function has its values, and a list that has them is that list.
 -- Assumes nothing.
-use Prim.Native.Nat.{ℕ, zero, suc, _<_}
+use Prim.Native.Nat.{ℕ, zero, suc, _+_, _<_}
 use mathlib.Core.Path.{_≡_, refl, sym, ap, _∙_}
-use mathlib.Core.List.{List}
+use mathlib.Core.List.{List, [], _∷_, _++_}
 use native.Mathlib.Nat.{le-of-suc-le-suc, not-suc-le-zero}
 use native.Mathlib.Omega.{arith}
 use lib.ListN.{length, getD}
 use lib.Seq.{ext-getD}
-use Rattle.tables.specs.Table.{table}
+use Rattle.tables.specs.Table.{table, sumOf, Each}
 
 pub length-table : (n : ℕ) (f : ℕ → ℕ) → length (table n f) ≡ n
 unfolding table
@@ -30,3 +30,36 @@ is-table n f l long all =
 pub same-table : (n : ℕ) (f g : ℕ → ℕ) → ((k : ℕ) → k < n → f k ≡ g k) → table n f ≡ table n g
 same-table n f g same =
     is-table n g (table n f) (length-table n f) (λ k h. table-at n f k h ∙ same k h)
+
+-- one thing more
+pub sum-more : {A : Type 0} (number : A → ℕ) (xs : List A) (x : A) → sumOf number (xs ++ (x ∷ [])) ≡ sumOf number xs + number x
+unfolding sumOf
+sum-more number [] x = omega arith
+sum-more number (y ∷ rest) x = omega (arith, sum-more number rest x)
+
+pub sum-none : {A : Type 0} (number : A → ℕ) → sumOf number [] ≡ 0
+unfolding sumOf
+sum-none number = refl
+
+-- two numbers of each that make up a third
+pub sum-both : {A : Type 0} (one other both : A → ℕ) → ((x : A) → one x + other x ≡ both x) → (xs : List A)
+    → sumOf one xs + sumOf other xs ≡ sumOf both xs
+unfolding sumOf
+sum-both one other both is [] = refl
+sum-both one other both is (x ∷ rest) = omega (arith, is x, sum-both one other both is rest)
+
+pub each-none : {A : Type 0} (Such : A → Type 0) → Each Such []
+unfolding Each
+each-none Such = tt
+
+pub each-more : {A : Type 0} (Such : A → Type 0) (xs : List A) (x : A) → Each Such xs → Such x → Each Such (xs ++ (x ∷ []))
+unfolding Each
+each-more Such [] x all such = (such, tt)
+each-more Such (y ∷ rest) x all such = (all .0, each-more Such rest x (all .1) such)
+
+-- what holds of each holds of the one at a place
+pub each-at : {A : Type 0} (Such : A → Type 0) (xs : List A) (none : A) → Each Such xs → (i : ℕ) → i < length xs → Such (getD xs i none)
+unfolding Each
+each-at Such [] none all i h = absurd (not-suc-le-zero h)
+each-at Such (y ∷ rest) none all zero h = all .0
+each-at Such (y ∷ rest) none all (suc i) h = each-at Such rest none (all .1) i (le-of-suc-le-suc h)

@@ -2,3 +2,4 @@
 pub mod Table
 pub mod Lent
 pub mod Settled
+pub mod Entries

@@ -1,0 +1,99 @@
+-- The ways of the QP call: it refuses and leaves everything, or has room and writes.
+-- Assumes nothing.
+use Prim.Native.Nat.{ℕ, _*_, _/_, _≤_, _<_}
+use mathlib.Core.Path.{_≡_, refl, sym, ap, _∙_}
+use mathlib.Core.List.{List}
+use mathlib.Core.Bool.{true, false}
+use native.Mathlib.Omega.{arith}
+use borrow.Author.Tests.{le-leb, lt-leb, leb-true}
+use lib.ListN.{length}
+use lib.Dec.{leb}
+use Rattle.tables.specs.Entries.{fronted}
+use Rattle.tables.proofs.Entries.{in-turn-long, fronts-all, fronts-nothing}
+use Rattle.refusals.specs.Numbers.{numbered}
+use Rattle.refusals.specs.Said.{Said, answers, refuses, demand}
+use Rattle.refusals.proofs.Said.{passed, went-on, only-one}
+use Rattle.detect.specs.declared.Recording.{Recording}
+use Rattle.detect.specs.declared.Kind.the-variants.{Qp}
+use Rattle.detect.specs.Admissions.{announcedBy, ds2Admission}
+use Rattle.qp.specs.declared.Totals.{Totals}
+use Rattle.qp.specs.declared.Demuxed.{Demuxed}
+use Rattle.qp.specs.declared.Demuxed.the-variants.{Segments, Refused}
+use Rattle.qp.specs.Segments.{Reading, readingOf, segmentsFrom, qpReading}
+use Rattle.qp.specs.Outcome.{entryOf, words, inRoom, inTable, totalsOf, demuxedSays, Demuxes}
+use Rattle.qp.specs.Written.{Holds}
+
+-- the segments of a recording are counted, which writes nothing, and then there is room for them or not
+module _ (f : List ℕ) (rec : Recording) (needed : ℕ) (is : needed ≡ length (segmentsFrom f rec)) (table counted : List ℕ)
+    (unwritten : Holds 0 (segmentsFrom f rec) table counted) where
+  same-table : counted ≡ table
+  same-table = fronts-nothing (4 * 0) (words (segmentsFrom f rec)) refl unwritten
+
+  pub no-room : length counted / 4 < needed → Demuxes (answers (readingOf f rec)) table counted (Refused (numbered 9 needed))
+  unfolding inRoom
+  no-room full =
+      let over : leb (length (segmentsFrom f rec)) (length table / 4) ≡ false = lt-leb (length (segmentsFrom f rec)) (length table / 4) (omega (arith, full, is, ap length same-table)) in
+      record { answer-is = simp (over, is); table-is = simp over same-table }
+
+  pub with-room : (announced : ℕ) (table′ : List ℕ) → announced ≡ announcedBy f rec → needed ≤ length counted / 4
+      → Holds needed (segmentsFrom f rec) counted table′
+      → Demuxes (answers (readingOf f rec)) table table′ (Segments (record { segments = needed; announced = announced }))
+  unfolding inRoom
+  with-room announced table′ sum room h =
+      let fits : leb (length (segmentsFrom f rec)) (length table / 4) ≡ true = le-leb (length (segmentsFrom f rec)) (length table / 4) (omega (arith, room, is, ap length same-table)) in
+      let all : length (words (segmentsFrom f rec)) ≤ 4 * needed =
+      omega (arith, in-turn-long entryOf 4 (λ x. refl) (segmentsFrom f rec), is) in
+      record {
+        answer-is = simp (fits, is, sum);
+        table-is =
+            simp fits
+            (fronts-all (4 * needed) (words (segmentsFrom f rec)) all h ∙ ap (fronted (words (segmentsFrom f rec))) same-table);
+      }
+
+-- what was admitted: a refusal is passed on, and a recording goes on to be read
+module _ (f : List ℕ) (table : List ℕ) where
+  pub not-taken : (number beside : ℕ) → refuses number beside ≡ ds2Admission f Qp
+      → Demuxes (qpReading f) table table (Refused (numbered number beside))
+  unfolding qpReading inRoom
+  not-taken number beside e = rw (← e) (record { answer-is = refl; table-is = refl })
+
+  pub taken : (rec : Recording) (table′ : List ℕ) (answer : Demuxed) → answers rec ≡ ds2Admission f Qp
+      → Demuxes (answers (readingOf f rec)) table table′ answer → Demuxes (qpReading f) table table′ answer
+  unfolding qpReading
+  taken rec table′ answer e d = rw (← e) d
+
+-- an answer is read back from what it says
+demuxed-read : Said Totals → Demuxed
+demuxed-read (answers totals) = Segments totals
+demuxed-read (refuses number beside) = Refused (numbered number beside)
+
+demuxed-back : (x : Demuxed) → demuxed-read (demuxedSays x) ≡ x
+unfolding demuxed-read
+demuxed-back (Segments totals) = refl
+demuxed-back (Refused why) = refl
+
+-- what is seen of an outcome
+abbrev pub Seen : Type 0
+Seen = Demuxed × List ℕ
+
+pub only-outcome : {reading : Said Reading} {table one′ other′ : List ℕ} {one other : Demuxed} → Demuxes reading table one′ one
+    → Demuxes reading table other′ other → _≡_ {A = Seen} (one, one′) (other, other′)
+only-outcome {reading} {table} {one′} {other′} {one} {other} d e =
+    let answer : one ≡ other = only-one demuxedSays demuxed-read demuxed-back one other _ (d .answer-is) (e .answer-is) in
+    cc (answer, d .table-is, e .table-is)
+
+-- what an accepted call has read
+pub accepted-read : (reading : Said Reading) (table table′ : List ℕ) (answer : Demuxed) → Demuxes reading table table′ answer
+    → (totals : Totals) → demuxedSays answer ≡ answers totals
+    → (r : Reading) × (reading ≡ answers r) × (totalsOf r ≡ totals) × (length (r .segments) ≤ length table / 4)
+    × (inTable reading table ≡ answers r)
+unfolding inRoom
+accepted-read reading table table′ answer d totals e =
+    let w = went-on (inTable reading table) (λ r. answers (totalsOf r)) (sym (d .answer-is) ∙ e) in
+    let v = went-on reading
+    (λ r. demand (leb (length (r .segments)) (length table / 4)) 9 (length (r .segments)) (answers r)) (w .1) in
+    let test = passed (leb (length (v .0 .segments)) (length table / 4)) 9 (length (v .0 .segments)) (answers (v .0)) (v .2) in
+    let same : v .0 ≡ w .0 = cc in
+    let many : totalsOf (w .0) ≡ totals = cc in
+    let fits : length (v .0 .segments) ≤ length table / 4 = leb-true _ _ (test .0) in
+    (w .0, rw (← same) (v .1), many, rw (← same) fits, w .1)
