@@ -7,6 +7,7 @@ use Rattle.packets.specs.Start.{dssStart}
 use Rattle.examples.specs.Bench.{bench, AllHold, Example4, Example7}
 use Rattle.examples.proofs.Files.{one-holds, three-holds, six-holds}
 use Rattle.examples.proofs.QpFiles.{two-holds}
+use Rattle.examples.proofs.Qp7Files.{five-holds}
 
 four-holds : Example4
 unfolding table packetByte
@@ -17,4 +18,4 @@ unfolding dssStart
 seven-holds = (refl, refl, refl)
 
 pub bench-holds : AllHold bench
-bench-holds = (one-holds, (two-holds, (three-holds, (four-holds, (six-holds, (seven-holds, tt))))))
+bench-holds = (one-holds, (two-holds, (three-holds, (four-holds, (five-holds, (six-holds, (seven-holds, tt)))))))

@@ -1,13 +1,13 @@
 -- The examples from the bench that are proved: one definition for each, and the table of them all.
 -- Assumes nothing.
-use Prim.Native.Nat.{ℕ, _*_, _<_}
+use Prim.Native.Nat.{ℕ, _+_, _*_, _≤_, _<_}
 use mathlib.Core.Path.{_≡_}
 use mathlib.Core.List.{List, [], _∷_}
 use mathlib.Core.Bool.{true, false}
 use lib.ListN.{length, getD, take, drop}
 use Rattle.tables.specs.Table.{table, sum}
-use Rattle.blocks.specs.Places.{wholeBlocks}
-use Rattle.blocks.specs.Headers.{flagOf, swapOf, firstOf, countOf, typeOf}
+use Rattle.blocks.specs.Places.{wholeBlocks, streamAt}
+use Rattle.blocks.specs.Headers.{swapOf, firstOf, countOf, typeOf}
 use Rattle.refusals.specs.Said.{Said, answers, refuses}
 use Rattle.detect.specs.declared.Kind.{Kind}
 use Rattle.detect.specs.declared.Kind.the-variants.{Sp, Qp, Qp7}
@@ -21,6 +21,8 @@ use Rattle.qp.specs.declared.Segment.{Segment}
 use Rattle.qp.specs.Segments as qp
 use Rattle.qp.specs.Segments.{qpReading}
 use Rattle.qp.specs.Outcome.{entryOf}
+use Rattle.qp7.specs.Records.{recordSize}
+use Rattle.qp7.specs.Walk.{qp7Reading}
 
 -- a file that begins with this byte and `ds2`
 pub record BeginsDs2 (byte : ℕ) (f : List ℕ) : Type 0 where
@@ -72,6 +74,16 @@ swappedRead = table 42 (packetByte true 99 (λ j. j))
 abbrev pub Example4 : Type 0
 Example4 = (take 6 swappedRead ≡ 1 ∷ 99 ∷ 3 ∷ 0 ∷ 5 ∷ 2 ∷ []) × (drop 38 swappedRead ≡ 39 ∷ 36 ∷ 0 ∷ 38 ∷ [])
 
+-- 5: every QP7 file of one block that announces 10 records, where each of those that follow one another by 56 bytes is a long one as far
+-- as the block has its second byte: with byte 1 = 3 it is refused by 5 at 504, and with byte 1 = 4 by 4 at 506
+abbrev pub AllLong : List ℕ → ℕ → Type 0
+AllLong f start = (k : ℕ) → start + 56 * k + 2 ≤ 506 → recordSize (streamAt f 1536 1 (start + 56 * k + 1)) ≡ 56
+
+abbrev pub Example5 : Type 0
+Example5 =
+    (f : List ℕ) → Ds2File Qp7 1 f → countOf f 1536 0 ≡ 10
+    → (firstOf f 1536 0 ≡ 3 → AllLong f 0 → qp7Reading f ≡ refuses 5 504) × (firstOf f 1536 0 ≡ 4 → AllLong f 2 → qp7Reading f ≡ refuses 4 506)
+
 -- 6: every SP file of one block, with flag 0 and count 13, reads as 13 packets, of which the last has count 14, and the counts add up to
 -- 506
 abbrev pub Example6 : Type 0
@@ -91,7 +103,7 @@ pub record Example : Type 1 where
 abbrev pub bench : List Example
 bench =
     record { number = 1; says = Example1 } ∷ record { number = 2; says = Example2 } ∷ record { number = 3; says = Example3 } ∷ record { number = 4; says = Example4 }
-    ∷ record { number = 6; says = Example6 } ∷ record { number = 7; says = Example7 } ∷ []
+    ∷ record { number = 5; says = Example5 } ∷ record { number = 6; says = Example6 } ∷ record { number = 7; says = Example7 } ∷ []
 
 -- every example of a table holds
 abbrev pub AllHold : List Example → Type 0

@@ -4,6 +4,7 @@ use blocks::FilePlace;
 use detect::AudioFormat;
 use detect::Kind;
 use libc::STDOUT_FILENO;
+use refusals::Refusal;
 use sp::Demuxed;
 ghost use mathlib.Core.Path.{_≡_};
 ghost use Prim.Native.Nat.{_+_, _≤_};
@@ -16,6 +17,12 @@ fn text(bytes: &[u8]) {
 fn number(n: usize) {
     text(b" ");
     io::print_decimal(STDOUT_FILENO, n as u64);
+}
+
+// A word of a table.
+fn word(value: u32) {
+    text(b" ");
+    io::print_decimal(STDOUT_FILENO, value as u64);
 }
 
 // So many bytes of a packet, from a place on.
@@ -43,18 +50,20 @@ fn rising() -> [u8; 40]
     read
 }
 
+fn show_refusal(why: Refusal) {
+    text(b" refused ");
+    io::print_decimal(STDOUT_FILENO, why.number);
+    text(b" ");
+    io::print_decimal(STDOUT_FILENO, why.beside);
+}
+
 fn show_answer(answer: Demuxed) {
     match answer {
         Demuxed::Packets(n) => {
             number(n);
             text(b" packets");
         }
-        Demuxed::Refused(why) => {
-            text(b" refused ");
-            io::print_decimal(STDOUT_FILENO, why.number);
-            text(b" ");
-            io::print_decimal(STDOUT_FILENO, why.beside);
-        }
+        Demuxed::Refused(why) => show_refusal(why),
     }
 }
 
@@ -89,6 +98,64 @@ fn example_1() {
     text(b"\n");
 }
 
+// How many segments a QP file has, and none where it is refused.
+fn segments(file: &[u8], table: &mut [u32]) -> usize {
+    let answer = qp::demux_ds2_qp(file, table);
+    match answer {
+        qp::Demuxed::Segments(totals) => totals.segments,
+        qp::Demuxed::Refused(_) => 0,
+    }
+}
+
+// A QP file of two blocks. The first starts at place 0.
+fn two_blocks(count: u8, byte1: u8, next: u8) -> [u8; 4096]
+    ensures { λ r. ⌜ length r ≡ 4096 ⌝ }
+{
+    let mut file = ds2_file(1, count, 6);
+    file[1537] = 3;
+    file[2049] = byte1;
+    file[2050] = next;
+    file
+}
+
+fn one_if_equal(a: usize, b: usize) -> usize
+    ensures { λ r. ⌜ r ≤ 1 ⌝ }
+{
+    if a == b { 1 } else { 0 }
+}
+
+// For how many counts of the second block there are so many segments.
+fn counts_with(count: u8, byte1: u8, many: usize) -> usize {
+    let mut counts: usize = 0;
+    let mut next: usize = 0;
+    while next < 256 {
+        let file = two_blocks(count, byte1, next as u8);
+        let mut table = [0u32; 8];
+        counts += one_if_equal(segments(&file[0..2560], &mut table), many);
+        next += 1;
+    }
+    counts
+}
+
+// 2: a second block that follows the first, and one that does not.
+fn example_2() {
+    text(b"2: after 10 frames and 30, one segment for");
+    number(counts_with(10, 30, 1));
+    text(b" counts; after 9 and 3, two for");
+    number(counts_with(9, 3, 2));
+    text(b" and one for");
+    number(counts_with(9, 3, 1));
+    let file = two_blocks(9, 3, 9);
+    let mut table = [0u32; 8];
+    segments(&file[0..2560], &mut table);
+    text(b", first");
+    word(table[0]);
+    word(table[1]);
+    word(table[2]);
+    word(table[3]);
+    text(b"\n");
+}
+
 // 3: the same after a scan that finds no good header.
 fn example_3() {
     let file = ds2_file(7, 0, 0);
@@ -107,6 +174,44 @@ fn example_4() {
     show(&bytes, 0, 6);
     text(b" and ends");
     show(&bytes, 38, 4);
+    text(b"\n");
+}
+
+// A QP7 file of one block that announces 10 records, all of them long.
+fn long_records(byte1: u8) -> [u8; 4096]
+    ensures { λ r. ⌜ length r ≡ 4096 ⌝ }
+{
+    let mut file = ds2_file(1, 10, 7);
+    file[1537] = byte1;
+    let mut k = 0;
+    while k < 506 {
+        file[1542 + k] = 255;
+        k += 1;
+    }
+    file
+}
+
+fn show_records(file: &[u8]) {
+    let mut records = [0u32; 16];
+    let mut segments = [0u32; 3];
+    let answer = qp7::demux_ds2_qp7(file, &mut records, &mut segments);
+    match answer {
+        qp7::Demuxed::Tables(totals) => {
+            number(totals.records);
+            text(b" records");
+        }
+        qp7::Demuxed::Refused(why) => show_refusal(why),
+    }
+}
+
+// 5: a tenth record that is cut, and one that is not there.
+fn example_5() {
+    let cut = long_records(3);
+    let gone = long_records(4);
+    text(b"5: byte 1 = 3");
+    show_records(&cut[0..2048]);
+    text(b", 4");
+    show_records(&gone[0..2048]);
     text(b"\n");
 }
 
@@ -186,8 +291,10 @@ fn reported_otherwise() -> usize {
 
 fn main() {
     example_1();
+    example_2();
     example_3();
     example_4();
+    example_5();
     example_6();
     example_7();
     text(b"types reported as SP and read as QP:");

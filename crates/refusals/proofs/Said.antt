@@ -1,7 +1,7 @@
 -- What is said when a test holds or fails; and that two values that say the same are the same.
 -- Assumes nothing.
 use Prim.Native.Nat.{ℕ}
-use mathlib.Core.Path.{_≡_, refl, sym, ap, _∙_}
+use mathlib.Core.Path.{_≡_, refl, sym, ap, _∙_, subst}
 use mathlib.Core.Bool.{Bool, true, false}
 use native.Mathlib.Omega.{arith}
 use Rattle.refusals.specs.Said.{Said, demand, answers, refuses, onward}
@@ -9,6 +9,10 @@ use Rattle.refusals.specs.Said.{Said, demand, answers, refuses, onward}
 -- a call that refuses does not answer
 pub not-both : {A : Type 0} {a : A} {number beside : ℕ} → refuses number beside ≡ answers a → ⊥
 not-both e = let z : _≡_ {A = ℕ} 0 1 = cc in omega arith
+
+-- what holds of an answer holds of any that is said to be the same
+pub for-the-answer : {A : Type 0} (P : A → Type 0) {a b : A} → answers a ≡ answers b → P a → P b
+for-the-answer {A} P {a} {b} e h = let same : a ≡ b = cc in subst P same h
 
 -- what is answered after a test has passed it
 pub passed : {A : Type 0} {a : A} (test : Bool) (number beside : ℕ) (rest : Said A) → demand test number beside rest ≡ answers a

@@ -4,10 +4,11 @@ use Prim.Native.Nat.{ℕ, zero, suc, _+_, _<_}
 use mathlib.Core.Path.{_≡_, refl, sym, ap, _∙_}
 use mathlib.Core.List.{List, [], _∷_, _++_}
 use native.Mathlib.Nat.{le-of-suc-le-suc, not-suc-le-zero}
+use native.Mathlib.Numerals.{add-one}
 use native.Mathlib.Omega.{arith}
 use lib.ListN.{length, getD}
 use lib.Seq.{ext-getD}
-use Rattle.tables.specs.Table.{table, sumOf, Each}
+use Rattle.tables.specs.Table.{table, sum, sumOf, Each}
 
 pub length-table : (n : ℕ) (f : ℕ → ℕ) → length (table n f) ≡ n
 unfolding table
@@ -30,6 +31,19 @@ is-table n f l long all =
 pub same-table : (n : ℕ) (f g : ℕ → ℕ) → ((k : ℕ) → k < n → f k ≡ g k) → table n f ≡ table n g
 same-table n f g same =
     is-table n g (table n f) (length-table n f) (λ k h. table-at n f k h ∙ same k h)
+
+-- the sum of a table with one place more
+table-sum-suc : (n : ℕ) (f : ℕ → ℕ) → sum (table (suc n) f) ≡ sum (table n f) + f n
+unfolding table sum
+table-sum-suc zero f = omega arith
+table-sum-suc (suc n) f = let rest = table-sum-suc n (λ k. f (suc k)) in omega (arith, rest)
+
+pub table-sum-more : (n : ℕ) (f : ℕ → ℕ) → sum (table (n + 1) f) ≡ sum (table n f) + f n
+table-sum-more n f = ap (λ (m : ℕ). sum (table m f)) (add-one n) ∙ table-sum-suc n f
+
+pub table-sum-none : (f : ℕ → ℕ) → sum (table 0 f) ≡ 0
+unfolding table sum
+table-sum-none f = refl
 
 -- one thing more
 pub sum-more : {A : Type 0} (number : A → ℕ) (xs : List A) (x : A) → sumOf number (xs ++ (x ∷ [])) ≡ sumOf number xs + number x

@@ -1,0 +1,95 @@
+-- What the walk keeps: a fact of what was gathered that no step breaks holds at the end. And how many records it has gathered.
+-- Assumes nothing.
+use Prim.Native.Nat.{ℕ, zero, suc, _+_, _*_}
+use mathlib.Core.Path.{_≡_, refl, sym, ap, _∙_}
+use mathlib.Core.List.{List, [], _∷_}
+use native.Mathlib.Omega.{arith}
+use lib.ListN.{length, length-append}
+use Rattle.tables.proofs.Cases.{by-equal}
+use Rattle.blocks.specs.Places.{streamAt}
+use Rattle.blocks.specs.Headers.{firstOf, countOf, announcedIn}
+use Rattle.refusals.specs.Said.{answers, onward}
+use Rattle.refusals.proofs.Said.{went-on, for-the-answer}
+use Rattle.detect.specs.declared.Recording.{Recording}
+use Rattle.detect.specs.declared.Kind.the-variants.{Qp7}
+use Rattle.detect.specs.Admissions.{ds2Admission}
+use Rattle.frames.specs.Start.{framesStart}
+use Rattle.qp7.specs.Records.{recordAt}
+use Rattle.qp7.specs.Walk.{Gathered, nothing, noted, raised, closing, reads, withBlock, gatheredTo, gatheredFrom, qp7Reading}
+use Rattle.qp7.proofs.Closing.{closing-records}
+use Rattle.qp7.proofs.Reading.{reads-keep}
+use Rattle.qp7.proofs.Blockwise.{silent-is, announcing-is}
+use Rattle.qp7.proofs.Gathering.{gathered-from}
+
+-- P holds at first, and every step keeps it
+pub record Kept (s : ℕ → ℕ) (long : ℕ) (P : Gathered → Type 0) : Type 0 where
+  pub at-first : P nothing
+  pub by-a-record : (g : Gathered) (size : ℕ) → recordAt s long (g .place) ≡ answers size → P g → P (noted size g)
+  pub by-raising : (q : ℕ) (g : Gathered) → P g → P (raised q g)
+  pub by-closing : (g : Gathered) → P g → P (closing g)
+
+-- a block keeps it
+block-keeps-it : {P : Gathered → Type 0} (f : List ℕ) (a n b : ℕ) → Kept (streamAt f a n) (506 * n) P → (g g′ : Gathered)
+    → withBlock f a n b g ≡ answers g′ → P g → P g′
+block-keeps-it {P} f a n b kept g g′ e p =
+    by-equal (countOf f a b) 0
+    (λ none. for-the-answer P (sym (silent-is f a n b g none) ∙ e) (kept .by-raising (506 * (b + 1)) (closing g) (kept .by-closing g p)))
+    (λ some.
+    reads-keep {P = P} (streamAt f a n) (506 * n) (kept .by-a-record) (countOf f a b) (raised (framesStart b (firstOf f a b)) g) g′
+    (sym (announcing-is f a n b g some) ∙ e) (kept .by-raising (framesStart b (firstOf f a b)) g p))
+
+-- and so does the walk
+pub walk-keeps-it : {P : Gathered → Type 0} (f : List ℕ) (a n b : ℕ) → Kept (streamAt f a n) (506 * n) P → (g : Gathered)
+    → gatheredTo f a n b ≡ answers g → P g
+unfolding gatheredTo
+walk-keeps-it {P} f a n zero kept g e = for-the-answer P e (kept .at-first)
+walk-keeps-it {P} f a n (suc b) kept g e =
+    let w = went-on (gatheredTo f a n b) (withBlock f a n b) e in
+    block-keeps-it {P = P} f a n b kept (w .0) g (w .2) (walk-keeps-it {P = P} f a n b kept (w .0) (w .1))
+
+-- n records more
+reads-many : (s : ℕ → ℕ) (long n : ℕ) (g g′ : Gathered) → reads s long n g ≡ answers g′ → length (g′ .records) ≡ length (g .records) + n
+unfolding reads
+reads-many s long zero g g′ e = for-the-answer (λ (x : Gathered). length (x .records) ≡ length (g .records) + 0) e (omega arith)
+reads-many s long (suc n) g g′ e =
+    let w = went-on (recordAt s long (g .place)) (λ size. reads s long n (noted size g)) e in
+    omega (arith, reads-many s long n (noted (w .0) g) g′ (w .2), length-append (g .records) (g .place ∷ []))
+
+-- a block has as many as it announces
+block-many : (f : List ℕ) (a n b : ℕ) (g g′ : Gathered) → withBlock f a n b g ≡ answers g′
+    → length (g′ .records) ≡ length (g .records) + countOf f a b
+block-many f a n b g g′ e =
+    by-equal (countOf f a b) 0
+    (λ none.
+    for-the-answer (λ (x : Gathered). length (x .records) ≡ length (g .records) + countOf f a b) (sym (silent-is f a n b g none) ∙ e)
+    (omega (arith, ap (λ (l : List ℕ). length l) (closing-records g), none)))
+    (λ some.
+    reads-many (streamAt f a n) (506 * n) (countOf f a b) (raised (framesStart b (firstOf f a b)) g) g′
+    (sym (announcing-is f a n b g some) ∙ e))
+
+-- the first b blocks have as many as they announce
+pub walk-many : (f : List ℕ) (a n b : ℕ) (g : Gathered) → gatheredTo f a n b ≡ answers g → length (g .records) ≡ announcedIn f a b
+unfolding gatheredTo announcedIn
+walk-many f a n zero g e = for-the-answer (λ (x : Gathered). length (x .records) ≡ 0) e refl
+walk-many f a n (suc b) g e =
+    let w = went-on (gatheredTo f a n b) (withBlock f a n b) e in
+    omega (arith, block-many f a n b (w .0) g (w .2), walk-many f a n b (w .0) (w .1))
+
+-- what was gathered before the last segment was closed
+pub before-the-end : (f : List ℕ) (rec : Recording) (g : Gathered) → gatheredFrom f rec ≡ answers g
+    → (h : Gathered) × (gatheredTo f (rec .start .0) (rec .blocks) (rec .blocks) ≡ answers h) × (closing h ≡ g)
+before-the-end f rec g e =
+    let w = went-on (gatheredTo f (rec .start .0) (rec .blocks) (rec .blocks)) (λ h. answers (closing h)) (sym (gathered-from f rec) ∙ e) in
+    (w .0, w .1, for-the-answer (λ (x : Gathered). closing (w .0) ≡ x) (w .2) refl)
+
+-- a file that is read was admitted, and what was gathered is what its recording gathers
+pub admitted-first : (f : List ℕ) (g : Gathered) → qp7Reading f ≡ answers g
+    → (rec : Recording) × (ds2Admission f Qp7 ≡ answers rec) × (gatheredFrom f rec ≡ answers g)
+unfolding qp7Reading
+admitted-first f g e = went-on (ds2Admission f Qp7) (gatheredFrom f) e
+
+-- and by whatever recording it was admitted
+pub gathered-by : (f : List ℕ) (rec : Recording) (g : Gathered) → ds2Admission f Qp7 ≡ answers rec → qp7Reading f ≡ answers g
+    → gatheredFrom f rec ≡ answers g
+unfolding qp7Reading
+gathered-by f rec g taken e = sym (ap (λ said. onward said (gatheredFrom f)) taken) ∙ e

@@ -1,0 +1,63 @@
+-- `qp7::record_at` meets its contract: by the ways of finding a record.
+-- Assumes nothing.
+use mathlib.Core.Path.{ap, _∙_}
+use Rattle.qp7.specs.Records.{recordSize}
+use Rattle.qp7.proofs.Records.{no-selector, runs-past, record-there}
+use borrow.Author.Needs.{needs}
+use Rattle.qp7.proofs.record_at.Statement.{statement}
+use Rattle.qp7.proofs.record_at.Tie as tie
+
+mul-end : tie.Need-mul-end
+mul-end c = search needs
+
+add-if1 : tie.Need-add-if1
+add-if1 c = search needs
+
+selector-requires : tie.Need-selector-requires
+selector-requires c κs = search needs
+
+returns : tie.Need-returns
+returns c = rw (c .selector .ensures) (no-selector _ _ _ (c .before .if1 .taken))
+
+add-next : tie.Need-add-next
+add-next c = search needs
+
+stream-byte-requires : tie.Need-stream-byte-requires
+stream-byte-requires c κs = search needs
+
+size-of-requires : tie.Need-size-of-requires
+size-of-requires c κs = search needs
+
+add-if2 : tie.Need-add-if2
+add-if2 c = search needs
+
+record-requires : tie.Need-record-requires
+record-requires c κs = search needs
+
+returns-2 : tie.Need-returns-2
+returns-2 c =
+    let h = c .before .before in
+    let size = h .size-of .ensures .0 ∙ ap recordSize (h .before .stream-byte .ensures) in
+    rw (c .«record» .ensures) (runs-past _ _ _ _ (h .before .before .if1 .left) size (c .before .if2 .taken))
+
+returns-3 : tie.Need-returns-3
+returns-3 c =
+    let h = c .before in
+    let size = h .size-of .ensures .0 ∙ ap recordSize (h .before .stream-byte .ensures) in
+    record-there _ _ _ _ (h .before .before .if1 .left) size (c .if2 .left)
+
+pub record-at-spec : {M : Type 1} → statement M
+record-at-spec =
+    tie.close
+    (tie.spec
+    mul-end
+    add-if1
+    selector-requires
+    returns
+    add-next
+    stream-byte-requires
+    size-of-requires
+    add-if2
+    record-requires
+    returns-2
+    returns-3)
