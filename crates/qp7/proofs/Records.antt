@@ -6,6 +6,7 @@ use mathlib.Core.Bool.{true, false}
 use native.Mathlib.Omega.{arith}
 use borrow.Author.Tests.{le-leb, lt-leb, leb-true}
 use lib.Dec.{leb}
+use Rattle.tables.proofs.Cases.{by-order}
 use Rattle.blocks.specs.Headers.{flagOf}
 use Rattle.refusals.specs.declared.Refusal.{Refusal}
 use Rattle.refusals.specs.Said.{Said, answers, refuses, refusal}
@@ -23,6 +24,12 @@ long-size second h = simp (le-leb 128 second h)
 pub short-size : (second : ℕ) → second < 128 → recordSize second ≡ 12
 unfolding recordSize flagOf
 short-size second h = simp (lt-leb 128 second h)
+
+-- either is above 0 and at most 56
+pub size-bounds : (second : ℕ) → (0 < recordSize second) × (recordSize second ≤ 56)
+size-bounds second =
+    by-order second 128 (λ h. (omega (arith, short-size second h), omega (arith, short-size second h)))
+    (λ h. (omega (arith, long-size second h), omega (arith, long-size second h)))
 
 module _ (s : ℕ → ℕ) (long q : ℕ) where
   -- fewer than 2 bytes are left

@@ -5,20 +5,26 @@ use mathlib.Core.Path.{_≡_, refl, sym, ap, _∙_}
 use mathlib.Core.List.{List}
 use native.Mathlib.Omega.{arith}
 use denote.Ref.{now}
-use lib.ListN.{length}
+use lib.ListN.{length, take, drop}
 use Rattle.tables.specs.Settled.{SettledAs}
 use Rattle.tables.specs.Table.{table}
 use Rattle.tables.specs.Entries.{fronted}
 use Rattle.blocks.specs.Places.{streamAt}
+use Rattle.blocks.specs.Stream.{joined}
 use Rattle.refusals.specs.Said.{Said, answers, refuses}
 use Rattle.refusals.proofs.Said.{not-both, for-the-answer}
 use Rattle.detect.specs.declared.Recording.{Recording}
 use Rattle.detect.specs.declared.Kind.the-variants.{Qp7}
 use Rattle.detect.specs.Admissions.{ds2Admission, announcedBy}
+use Rattle.detect.proofs.Admissions.{ds2-admitted}
+use Rattle.frames.specs.Cut.{fetchedBytes}
+use Rattle.frames.proofs.Shown.{can-be-fetched}
+use Rattle.frames.proofs.Theorems.{fill-then-show-joined}
 use Rattle.qp7.specs.declared.Totals.{Totals}
 use Rattle.qp7.specs.declared.Demuxed.{Demuxed}
 use Rattle.qp7.specs.Walk.{Gathered, qp7Reading, placeAt, sizeAt, segmentAt, recordsBefore}
 use Rattle.qp7.specs.Outcome.{recordWords, segmentWords, inRoom, inTables, totalsOf, answered, recordsAfter, segmentsAfter, demuxedSays, Demuxes, TablesHold}
+use Rattle.qp7.proofs.Records.{size-bounds}
 use Rattle.qp7.proofs.Closing.{closing-records}
 use Rattle.qp7.proofs.Keeping.{walk-many, before-the-end, admitted-first}
 use Rattle.qp7.proofs.Lying.{gathered-lie}
@@ -72,6 +78,17 @@ module _ (f : List ℕ) (g : Gathered) (e : qp7Reading f ≡ answers g) where
     pub records-lie-apart : (i j : ℕ) → i < j → j < length (g .records)
         → placeAt g i + sizeAt (streamAt f (rec .start .0) (rec .blocks)) g i ≤ placeAt g j
     records-lie-apart i j h l = gathered-lie f g e rec taken .apart i j h l
+
+    -- Every record can be fetched by its place and size, with a scratch of at least 56 bytes and whatever that holds: `fill` and then `show`
+    -- give its bytes, a part of all payloads joined, which `Ds2QpStreamDemuxer` hands out for it.
+    pub records-are-fetched : (i : ℕ) (scratch : List ℕ) → i < length (g .records) → 56 ≤ length scratch
+        → fetchedBytes f (placeAt g i) (sizeAt (streamAt f (rec .start .0) (rec .blocks)) g i) scratch
+        ≡ take (sizeAt (streamAt f (rec .start .0) (rec .blocks)) g i) (drop (placeAt g i) (joined f (rec .start .0) (rec .blocks)))
+    records-are-fetched i scratch h roomy =
+        let s = streamAt f (rec .start .0) (rec .blocks) in
+        let small = size-bounds (s (placeAt g i + 1)) in
+        fill-then-show-joined f rec (placeAt g i) (sizeAt s g i) scratch
+        (can-be-fetched f rec (placeAt g i) (sizeAt s g i) (length scratch) (ds2-admitted f Qp7 rec taken .0) (small .0) (small .1) (records-lie-in-the-stream i h) roomy)
 
 module _ (reading : Said Gathered) (records records′ segments segments′ : List ℕ) (answer : Demuxed)
     (d : Demuxes reading records records′ segments segments′ answer) where
