@@ -21,7 +21,7 @@ ghost use Rattle.frames.specs.Fetch.{canFetch, fetchFrom, isInside, stan
 // The size of a QP frame. A scratch must have as many bytes.
 pub const FRAME: usize = 56;
 
-// The largest place that a number can have.
+// The largest number of 64 bits: no place lies past it.
 const LAST: usize = 18_446_744_073_709_551_615;
 
 // Where a frame starts, and how many bytes it has: none where it is missing.
