@@ -1,14 +1,16 @@
 -- The ways of the QP call: it refuses and leaves everything, or has room and writes.
 -- Assumes nothing.
-use Prim.Native.Nat.{ℕ, _*_, _/_, _≤_, _<_}
+use Prim.Native.Nat.{ℕ, _+_, _*_, _/_, _≤_, _<_}
 use mathlib.Core.Path.{_≡_, refl, sym, ap, _∙_}
 use mathlib.Core.List.{List}
-use mathlib.Core.Bool.{true, false}
+use mathlib.Core.Bool.{true, false, cond}
+use mathlib.Core.Logic.{_⊎_, inl, inr, ⊎-elim}
 use native.Mathlib.Omega.{arith}
-use borrow.Author.Tests.{le-leb, lt-leb, leb-true}
+use borrow.Author.Tests.{le-leb, lt-leb, leb-true, le-ltb, lt-ltb}
 use lib.ListN.{length}
-use lib.Dec.{leb}
+use lib.Dec.{leb, ltb}
 use Rattle.tables.specs.Entries.{fronted}
+use Rattle.tables.proofs.Cases.{by-order}
 use Rattle.tables.proofs.Entries.{in-turn-long, fronts-all, fronts-nothing}
 use Rattle.refusals.specs.Numbers.{numbered}
 use Rattle.refusals.specs.Said.{Said, answers, refuses, demand}
@@ -23,32 +25,44 @@ use Rattle.qp.specs.Segments.{Reading, readingOf, segmentsFrom, qpReadin
 use Rattle.qp.specs.Outcome.{entryOf, words, inRoom, inTable, totalsOf, demuxedSays, Demuxes}
 use Rattle.qp.specs.Written.{Holds}
 
--- the segments of a recording are counted, which writes nothing, and then there is room for them or not
-module _ (f : List ℕ) (rec : Recording) (needed : ℕ) (is : needed ≡ length (segmentsFrom f rec)) (table counted : List ℕ)
-    (unwritten : Holds 0 (segmentsFrom f rec) table counted) where
-  same-table : counted ≡ table
-  same-table = fronts-nothing (4 * 0) (words (segmentsFrom f rec)) refl unwritten
+-- the entries that are written at once, which are all that can be or none, and the rest
+module _ (f : List ℕ) (rec : Recording) (room written needed : ℕ) (is : needed ≡ length (segmentsFrom f rec)) (table between : List ℕ)
+    (roomy : room ≡ length table / 4) (at-once : written ≡ cond (ltb (rec .blocks) room) room 0) (few : needed ≤ rec .blocks + 1)
+    (first : Holds written (segmentsFrom f rec) table between) where
+  -- where not all were written at once, none was
+  none-yet : (room < needed) ⊎ (written < needed) → written ≡ 0
+  none-yet short =
+      by-order (rec .blocks) room
+      (λ h. let all : written ≡ room = at-once ∙ simp (lt-ltb (rec .blocks) room h) in absurd (⊎-elim (λ l. omega arith) (λ l. omega (arith, all)) short))
+      (λ h. at-once ∙ simp (le-ltb (rec .blocks) room h))
 
-  pub no-room : length counted / 4 < needed → Demuxes (answers (readingOf f rec)) table counted (Refused (numbered 9 needed))
+  unwritten : written ≡ 0 → between ≡ table
+  unwritten none = fronts-nothing (4 * written) (words (segmentsFrom f rec)) (omega (arith, none)) first
+
+  pub no-room : room < needed → Demuxes (answers (readingOf f rec)) table between (Refused (numbered 9 needed))
   unfolding inRoom
   no-room full =
-      let over : leb (length (segmentsFrom f rec)) (length table / 4) ≡ false = lt-leb (length (segmentsFrom f rec)) (length table / 4) (omega (arith, full, is, ap length same-table)) in
-      record { answer-is = simp (over, is); table-is = simp over same-table }
+      let over : leb (length (segmentsFrom f rec)) (length table / 4) ≡ false = lt-leb (length (segmentsFrom f rec)) (length table / 4) (omega (arith, full, is, roomy)) in
+      record { answer-is = simp (over, is); table-is = simp over (unwritten (none-yet (inl full))) }
 
-  pub with-room : (announced : ℕ) (table′ : List ℕ) → announced ≡ announcedBy f rec → needed ≤ length counted / 4
-      → Holds needed (segmentsFrom f rec) counted table′
+  pub with-room : (announced : ℕ) (table′ : List ℕ) → announced ≡ announcedBy f rec → needed ≤ room → (needed ≤ written → table′ ≡ between)
+      → (written < needed → Holds needed (segmentsFrom f rec) between table′)
       → Demuxes (answers (readingOf f rec)) table table′ (Segments (record { segments = needed; announced = announced }))
   unfolding inRoom
-  with-room announced table′ sum room h =
-      let fits : leb (length (segmentsFrom f rec)) (length table / 4) ≡ true = le-leb (length (segmentsFrom f rec)) (length table / 4) (omega (arith, room, is, ap length same-table)) in
-      let all : length (words (segmentsFrom f rec)) ≤ 4 * needed =
-      omega (arith, in-turn-long entryOf 4 (λ x. refl) (segmentsFrom f rec), is) in
-      record {
-        answer-is = simp (fits, is, sum);
-        table-is =
-            simp fits
-            (fronts-all (4 * needed) (words (segmentsFrom f rec)) all h ∙ ap (fronted (words (segmentsFrom f rec))) same-table);
-      }
+  with-room announced table′ sum fits kept rest =
+      let can : leb (length (segmentsFrom f rec)) (length table / 4) ≡ true = le-leb (length (segmentsFrom f rec)) (length table / 4) (omega (arith, fits, is, roomy)) in
+      record { answer-is = simp (can, is, sum); table-is = simp can all }
+    where
+      many : length (words (segmentsFrom f rec)) ≡ 4 * needed
+      many = in-turn-long entryOf 4 (λ x. refl) (segmentsFrom f rec) ∙ omega (arith, is)
+
+      all : table′ ≡ fronted (words (segmentsFrom f rec)) table
+      all =
+          by-order written needed
+          (λ h.
+          fronts-all (4 * needed) (words (segmentsFrom f rec)) (omega (arith, many)) (rest h)
+          ∙ ap (fronted (words (segmentsFrom f rec))) (unwritten (none-yet (inr h))))
+          (λ h. kept h ∙ fronts-all (4 * written) (words (segmentsFrom f rec)) (omega (arith, many)) first)
 
 -- what was admitted: a refusal is passed on, and a recording goes on to be read
 module _ (f : List ℕ) (table : List ℕ) where

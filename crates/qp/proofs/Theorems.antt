@@ -1,15 +1,14 @@
 -- What holds of `demux_ds2_qp` and of its segments and frames for every file and all lent memory, beyond the contract or drawn from it.
 -- Each statement stands under a sentence that says it; the laws that carry them are in the files beside this one. Assumes nothing.
-use Prim.Native.Nat.{ℕ, _+_, _*_, _/_, _≤_, _<_, min}
+use Prim.Native.Nat.{ℕ, _+_, _*_, _≤_, _<_, min}
 use mathlib.Core.Path.{_≡_, refl, sym, ap, _∙_, subst}
 use mathlib.Core.List.{List}
-use mathlib.Core.Bool.{true, false}
 use native.Mathlib.Omega.{arith}
 use borrow.Author.Tests.{le-leb, lt-leb}
 use denote.Ref.{now}
 use lib.ListN.{length, getD, drop, length-take, length-drop}
 use Rattle.tables.specs.Settled.{SettledAs}
-use Rattle.tables.specs.Table.{sumOf, Each}
+use Rattle.tables.specs.Table.{Each}
 use Rattle.tables.specs.Entries.{fronted}
 use Rattle.tables.proofs.Table.{each-at, sum-both}
 use Rattle.tables.proofs.Lent.{over-in, over-past, over-long}
@@ -25,9 +24,9 @@ use Rattle.detect.specs.declared.Recording.{Recording}
 use Rattle.detect.specs.declared.Kind.the-variants.{Qp}
 use Rattle.detect.specs.Admissions.{announcedBy, ds2Admission}
 use Rattle.detect.proofs.Admissions.{ds2-admitted}
-use Rattle.frames.specs.Frames.{handedOut, shortAmong, missingOf}
+use Rattle.frames.specs.Frames.{handedOut, missingOf}
 use Rattle.frames.specs.Cut.{cut, fetchedFrames}
-use Rattle.frames.proofs.Frames.{handed-and-missing, handed-is, short-is}
+use Rattle.frames.proofs.Frames.{handed-and-missing}
 use Rattle.frames.proofs.Cut.{cut-many}
 use Rattle.frames.proofs.Theorems.{frames-are-cut}
 use Rattle.qp.specs.declared.Segment.{Segment}

@@ -1,5 +1,5 @@
-// The whole reading of QP files: the segments of a DS2 file of type 6 or 8 to 255, into a lent table. The blocks are walked twice, first
-// to count and then to write, so that a refused call has written nothing.
+// The whole reading of QP files: the segments of a DS2 file of type 6 or 8 to 255, into a lent table. Where the table
+// may be too small the blocks are walked twice, first to count and then to write, so that a refused call has written nothing.
 // Rests on detect, which says whether the file is taken, on frames, for where a block starts, on refusals, blocks and tables.
 use blocks::PAYLOAD;
 use blocks::StreamPlace;
@@ -10,7 +10,9 @@ use frames::FRAME;
 use refusals::Refusal;
 ghost use mathlib.Core.Path.{_≡_};
 ghost use Prim.Native.Nat.{ℕ, _+_, _*_, _<_, _≤_, _^_};
+ghost use mathlib.Core.Bool.{cond};
 ghost use lib.ListN.{length};
+ghost use lib.Dec.{ltb};
 ghost use Rattle.tables.specs.Entries.{Puts};
 ghost use Rattle.blocks.specs.Headers.{Bytes};
 ghost use Rattle.detect.proofs.Admissions.{Sound};
@@ -135,6 +137,7 @@ fn write_segments(file: &[u8], recording: Recording, most: usize, table: &mut [u
     requires sound { ⌜ Sound (now file) recording ⌝ }
     requires room { ⌜ 4 * most ≤ length (now table) ⌝ }
     ensures many { λ r. ⌜ r ≡ length (segmentsFrom (now (file .entry)) recording) ⌝ }
+    ensures few { λ r. ⌜ r ≤ recording .blocks + 1 ⌝ }
     ensures written { λ _. ⌜ Holds most (segmentsFrom (now (file .entry)) recording) (now (table .entry)) (now (table .exit)) ⌝ }
 {
     let start = recording.start;
@@ -157,16 +160,38 @@ fn write_segments(file: &[u8], recording: Recording, most: usize, table: &mut [u
     close(gathering, end, most, table)
 }
 
-// Counts a recording's segments, and hands them out if there is room for all.
+// How many entries are written at once: all, if there is room for one a block and one more, and otherwise none before they are counted.
+fn at_once(blocks: usize, room: usize) -> usize
+    ensures { λ r. ⌜ (r ≡ cond (ltb blocks room) room 0) × (r ≤ room) ⌝ }
+{
+    if blocks < room { room } else { 0 }
+}
+
+// Writes the entries that are needed, if not all of them were written at once.
+fn write_needed(file: &[u8], recording: Recording, written: usize, needed: usize, table: &mut [u32])
+    requires sound { ⌜ Sound (now file) recording ⌝ }
+    requires room { ⌜ 4 * needed ≤ length (now table) ⌝ }
+    ensures none { λ _. ⌜ (needed ≤ written → now (table .exit) ≡ now (table .entry)) ⌝ }
+    ensures all { λ _. ⌜ (written < needed → Holds needed (segmentsFrom (now (file .entry)) recording) (now (table .entry)) (now (table .exit))) ⌝ }
+{
+    if needed <= written {
+        return;
+    }
+    write_segments(file, recording, needed, table);
+}
+
+// Hands out a recording's segments, if there is room for all.
 fn read(file: &[u8], recording: Recording, table: &mut [u32]) -> Demuxed
     requires { ⌜ Sound (now file) recording ⌝ }
     ensures { λ r. ⌜ Demuxes (answers (readingOf (now (file .entry)) recording)) (now (table .entry)) (now (table .exit)) r ⌝ }
 {
-    let needed = write_segments(file, recording, 0, table);
-    if table.len() / ENTRY < needed {
+    let room = table.len() / ENTRY;
+    let written = at_once(recording.blocks, room);
+    let needed = write_segments(file, recording, written, table);
+    if room < needed {
         return Demuxed::Refused(Refusal::segments(needed));
     }
-    write_segments(file, recording, needed, table);
+    write_needed(file, recording, written, needed, table);
     Demuxed::Segments(Totals {
         segments: needed,
         announced: recording.announced(file),

@@ -4,22 +4,16 @@ use Rattle.qp.proofs.Gathers.{adds, near-more}
 use borrow.Author.Needs.{needs}
 use Rattle.qp.proofs.add.Statement.{statement}
 use Rattle.qp.proofs.add.Tie as tie
-use Rattle.qp.proofs.add.Reads as reads
-use Rattle.qp.proofs.add.Lts as lts
 
--- src/lib.rt:117:49
 mul-t5 : tie.Need-mul-t5
 mul-t5 c = search needs
 
--- src/lib.rt:117:29
 add-t6 : tie.Need-add-t6
 add-t6 c = search needs
 
--- src/lib.rt:121:17
 add-t5 : tie.Need-add-t5
 add-t5 c = search needs
 
--- src/lib.rt:111:1
 returns : tie.Need-returns
 returns c =
     let a = c .before .before .before .args in

@@ -4,25 +4,18 @@ use Rattle.qp.proofs.Gathers.{moves-on, moves-away, near-on, near-away}
 use borrow.Author.Needs.{needs}
 use Rattle.qp.proofs.arrive.Statement.{statement}
 use Rattle.qp.proofs.arrive.Tie as tie
-use Rattle.qp.proofs.arrive.Reads as reads
-use Rattle.qp.proofs.arrive.Lts as lts
-use Rattle.qp.proofs.close.Reads as close-reads
 
--- src/lib.rt:99:9
 returns : tie.Need-returns
 returns c =
     let a = c .before .before .before .before .args in
     ((λ g is. moves-on (a .end) (a .at .0) (a .most) g (a .gathering) _ is (c .if1 .taken)), (λ frames kept near. near-on (a .end) frames kept (a .gathering) near))
 
--- src/lib.rt:101:9
 close-requires : tie.Need-close-requires
 close-requires c κs = search needs
 
--- src/lib.rt:92:1
 same-length : tie.Need-same-length
 same-length c = search needs
 
--- src/lib.rt:92:1
 returns-2 : tie.Need-returns-2
 returns-2 c =
     let k = c .before .before in

@@ -5,42 +5,30 @@ use Rattle.qp.proofs.Gathers.{closes-none, closes-some}
 use borrow.Author.Needs.{needs}
 use Rattle.qp.proofs.close.Statement.{statement}
 use Rattle.qp.proofs.close.Tie as tie
-use Rattle.qp.proofs.close.Reads as reads
-use Rattle.qp.proofs.close.Lts as lts
-use Rattle.qp.proofs.put.Reads as put-reads
-use Rattle.tables.proofs.lesser.Reads as lesser-reads
 
--- src/lib.rt:77:9
 returns : tie.Need-returns
 returns c =
     let s = c .before .before .before in
     ((λ g is. closes-none (s .args .end) (s .args .most) g (s .args .gathering) _ is (c .if1 .taken)), omega arith)
 
--- src/lib.rt:80:9
 lesser-requires : tie.Need-lesser-requires
 lesser-requires c κs = search needs
 
--- src/lib.rt:83:15
 sub-t10 : tie.Need-sub-t10
 sub-t10 c = search needs
 
--- src/lib.rt:85:16
 lesser-requires-2 : tie.Need-lesser-requires-2
 lesser-requires-2 c κs = search needs
 
--- src/lib.rt:87:5
 put-requires : tie.Need-put-requires
 put-requires c κs = search needs
 
--- src/lib.rt:88:5
 add-result : tie.Need-add-result
 add-result c = search needs
 
--- src/lib.rt:69:1
 same-length : tie.Need-same-length
 same-length c = search needs
 
--- src/lib.rt:69:1
 returns-2 : tie.Need-returns-2
 returns-2 c =
     let p = c .before .before in

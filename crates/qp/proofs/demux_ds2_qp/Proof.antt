@@ -9,30 +9,21 @@ use Rattle.qp.proofs.Outcome.{not-taken, taken}
 use borrow.Author.Needs.{needs}
 use Rattle.qp.proofs.demux_ds2_qp.Statement.{statement}
 use Rattle.qp.proofs.demux_ds2_qp.Tie as tie
-use Rattle.qp.proofs.demux_ds2_qp.Reads as reads
-use Rattle.qp.proofs.demux_ds2_qp.Lts as lts
-use Rattle.detect.proofs.whole.admit_ds2.Reads as admit-ds2-reads
-use Rattle.qp.proofs.read.Reads as read-reads
 
--- src/lib.rt:173:9
 admit-ds2-requires : tie.Need-admit-ds2-requires
 admit-ds2-requires c κs = search needs
 
--- src/lib.rt:175:28
 enum-known-asked : tie.Need-enum-known-asked
 enum-known-asked c = search needs
 
--- src/lib.rt:176:29
 enum-known-asked-2 : tie.Need-enum-known-asked-2
 enum-known-asked-2 c = search needs
 
--- src/lib.rt:176:43
 read-requires : tie.Need-read-requires
 read-requires c κs =
     let k = c .before .before in
     ds2-admitted _ Qp _ (sym (k .before .before .admit-ds2 .ensures) ∙ ap admissionSays (k .asked2 .given .1)) .2
 
--- src/lib.rt:170:1
 returns : tie.Need-returns
 returns c =
     let k = c .before in (
@@ -40,11 +31,9 @@ returns c =
       (λ i. omega (arith, k .before .before .before .before .shared-slice-known .given i)),
     )
 
--- src/lib.rt:170:1
 same-length : tie.Need-same-length
 same-length c = search needs
 
--- src/lib.rt:170:1
 returns-2 : tie.Need-returns-2
 returns-2 c =
     let r = c .before .before in

@@ -8,82 +8,61 @@ use Rattle.qp.proofs.Entry.{entry-put}
 use borrow.Author.Needs.{needs}
 use Rattle.qp.proofs.put.Statement.{statement}
 use Rattle.qp.proofs.put.Tie as tie
-use Rattle.qp.proofs.put.Reads as reads
-use Rattle.qp.proofs.put.Lts as lts
 
--- src/lib.rt:59:9
 returns : tie.Need-returns
 returns c = search needs
 
--- src/lib.rt:61:14
 mul-at : tie.Need-mul-at
 mul-at c = search needs
 
--- src/lib.rt:62:17
 cast-table : tie.Need-cast-table
 cast-table c = search needs
 
--- src/lib.rt:62:5
 mul-table : tie.Need-mul-table
 mul-table c = search needs
 
--- src/lib.rt:62:5
 slice-write-table : tie.Need-slice-write-table
 slice-write-table c = search needs
 
--- src/lib.rt:63:21
 cast-table-2 : tie.Need-cast-table-2
 cast-table-2 c = search needs
 
--- src/lib.rt:63:11
 add-table : tie.Need-add-table
 add-table c = search needs
 
--- src/lib.rt:63:5
 mul-table-2 : tie.Need-mul-table-2
 mul-table-2 c = search needs
 
--- src/lib.rt:63:5
 slice-write-table-2 : tie.Need-slice-write-table-2
 slice-write-table-2 c = simp length-set (search needs)
 
--- src/lib.rt:64:21
 cast-table-3 : tie.Need-cast-table-3
 cast-table-3 c = search needs
 
--- src/lib.rt:64:11
 add-table-2 : tie.Need-add-table-2
 add-table-2 c = search needs
 
--- src/lib.rt:64:5
 mul-table-3 : tie.Need-mul-table-3
 mul-table-3 c = search needs
 
--- src/lib.rt:64:5
 slice-write-table-3 : tie.Need-slice-write-table-3
 slice-write-table-3 c = simp length-set (search needs)
 
--- src/lib.rt:65:21
 cast-table-4 : tie.Need-cast-table-4
 cast-table-4 c = search needs
 
--- src/lib.rt:65:11
 add-table-3 : tie.Need-add-table-3
 add-table-3 c = search needs
 
--- src/lib.rt:65:5
 mul-table-4 : tie.Need-mul-table-4
 mul-table-4 c = search needs
 
--- src/lib.rt:65:5
 slice-write-table-4 : tie.Need-slice-write-table-4
 slice-write-table-4 c = simp length-set (search needs)
 
--- src/lib.rt:53:1
 same-length : tie.Need-same-length
 same-length c = search needs
 
--- src/lib.rt:53:1
 returns-2 : tie.Need-returns-2
 returns-2 c =
     let e = c .before .before .before .before in

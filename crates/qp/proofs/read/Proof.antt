@@ -1,67 +1,66 @@
 -- `qp::read` meets its contract: the segments are counted, and all are written or none.
 -- Assumes nothing.
+use native.Mathlib.Omega.{arith}
+use mathlib.Core.Path.{refl}
 use denote.Ref.{now}
 use Rattle.qp.proofs.Outcome.{no-room, with-room}
 use borrow.Author.Needs.{needs}
 use Rattle.qp.proofs.read.Statement.{statement}
 use Rattle.qp.proofs.read.Tie as tie
-use Rattle.qp.proofs.read.Reads as reads
-use Rattle.qp.proofs.read.Lts as lts
-use Rattle.detect.proofs.Recording.announced.Reads as announced-reads
-use Rattle.qp.proofs.write_segments.Reads as write-segments-reads
-use Rattle.refusals.proofs.Refusal.segments.Reads as segments-reads
 
--- src/lib.rt:158:9
+at-once-requires : tie.Need-at-once-requires
+at-once-requires c κs = search needs
+
 write-segments-requires : tie.Need-write-segments-requires
-write-segments-requires c κs = search needs
+write-segments-requires c κs =
+    let o = c .before in
+    (o .before .before .before .pre, omega (arith, o .at-once .ensures .1))
 
--- src/lib.rt:160:33
 segments-requires : tie.Need-segments-requires
 segments-requires c κs = search needs
 
--- src/lib.rt:160:9
 same-length : tie.Need-same-length
 same-length c = search needs
 
--- src/lib.rt:160:9
 returns : tie.Need-returns
 returns c =
     let t = c .before in
     let w = t .before .before .before in
-    let a = w .before .before .before .before .args in
+    let o = w .before .before in
+    let a = o .before .before .before .args in
+    let e = w .write-segments .ensures in
     rw (c .segments .ensures)
-    (no-room (now (a .file)) (a .recording) _ (w .write-segments .ensures .0) _ _ (w .write-segments .ensures .1) (t .if1 .taken))
+    (no-room (now (a .file)) (a .recording) _ _ _ (e .0) _ _ refl (o .at-once .ensures .0) (e .1 .0) (e .1 .1) (t .if1 .taken))
 
--- src/lib.rt:162:5
-write-segments-requires-2 : tie.Need-write-segments-requires-2
-write-segments-requires-2 c κs = search needs
+write-needed-requires : tie.Need-write-needed-requires
+write-needed-requires c κs = search needs
 
--- src/lib.rt:165:20
 announced-requires : tie.Need-announced-requires
 announced-requires c κs = search needs
 
--- src/lib.rt:154:1
 same-length-2 : tie.Need-same-length-2
 same-length-2 c = search needs
 
--- src/lib.rt:154:1
 returns-2 : tie.Need-returns-2
 returns-2 c =
     let v = c .before .before .before in
-    let e = v .before .before in
-    let w = e .before .before .before in
-    let a = w .before .before .before .before .args in
-    with-room (now (a .file)) (a .recording) _ (w .write-segments .ensures .0) _ _ (w .write-segments .ensures .1) _ _ (c .announced .ensures .0) (e .if1 .left) (v .write-segments2 .ensures .1)
+    let t = v .before .before in
+    let w = t .before .before .before in
+    let o = w .before .before in
+    let a = o .before .before .before .args in
+    let e = w .write-segments .ensures in
+    with-room (now (a .file)) (a .recording) _ _ _ (e .0) _ _ refl (o .at-once .ensures .0) (e .1 .0) (e .1 .1) _ _ (c .announced .ensures .0) (t .if1 .left) (v .write-needed .ensures .0) (v .write-needed .ensures .1)
 
 pub read-spec : {M : Type 1} → statement M
 read-spec =
     tie.close
     (tie.spec
+    at-once-requires
     write-segments-requires
     segments-requires
     same-length
     returns
-    write-segments-requires-2
+    write-needed-requires
     announced-requires
     same-length-2
     returns-2)

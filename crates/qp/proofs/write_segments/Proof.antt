@@ -10,13 +10,6 @@ use Rattle.qp.proofs.Blockwise.{Blockwise, blocks-begin, blocks-go-on, 
 use borrow.Author.Needs.{needs}
 use Rattle.qp.proofs.write_segments.Statement.{statement}
 use Rattle.qp.proofs.write_segments.Tie as tie
-use Rattle.qp.proofs.write_segments.Reads as reads
-use Rattle.qp.proofs.write_segments.Lts as lts
-use Rattle.blocks.proofs.count_byte.Reads as count-byte-reads
-use Rattle.frames.proofs.block_start.Reads as block-start-reads
-use Rattle.qp.proofs.add.Reads as add-reads
-use Rattle.qp.proofs.arrive.Reads as arrive-reads
-use Rattle.qp.proofs.close.Reads as close-reads
 
 abbrev Inv-loop : tie.InvT-loop
 Inv-loop file most table₀ start blocks end gathering₀ block₀ table gathering block =
@@ -25,23 +18,19 @@ Inv-loop file most table₀ start blocks end gathering₀ block₀ table gatheri
 abbrev μ-loop : tie.MeasureT-loop
 μ-loop file most table₀ start blocks end gathering₀ block₀ table gathering block = blocks - block
 
--- src/lib.rt:135:15
 mul-end : tie.Need-mul-end Inv-loop μ-loop
 mul-end c =
     let s = c .before .before .before in
     omega (arith, few-blocks _ (s .args .recording) (s .pre .0))
 
--- src/lib.rt:143:5
 loop-holds : tie.Need-loop-holds Inv-loop μ-loop
 loop-holds c = blocks-begin _ _ _ _ _
 
--- src/lib.rt:144:13
 block-start-requires : tie.Need-block-start-requires Inv-loop μ-loop
 block-start-requires c κs =
     let s = c .before .before .before .before .before in
     (omega (arith, c .loop-test .taken, s .pre .0 .whole), omega (arith, c .loop-test .taken, few-blocks _ (s .args .recording) (s .pre .0)))
 
--- src/lib.rt:145:13
 arrive-requires : tie.Need-arrive-requires Inv-loop μ-loop
 arrive-requires c κs =
     let i = c .before .before in
@@ -53,11 +42,9 @@ arrive-requires c κs =
       omega (arith, s .pre .1, l .inv .holds .long),
     )
 
--- src/lib.rt:146:13
 count-byte-requires : tie.Need-count-byte-requires Inv-loop μ-loop
 count-byte-requires c κs = search needs
 
--- src/lib.rt:147:9
 add-requires : tie.Need-add-requires Inv-loop μ-loop
 add-requires c κs =
     let r = c .before .before .before in
@@ -69,18 +56,15 @@ add-requires c κs =
     let below = i .loop-test .taken in
     (omega (arith, near .place-is, near .start-in, near .frames-few, count, few, below), omega (arith, near .frames-few, count, few, below))
 
--- src/lib.rt:148:9
 add-block : tie.Need-add-block Inv-loop μ-loop
 add-block c =
     let i = c .before .before .before .before .before .before .before in
     let s = i .before .before .before .before .before in
     omega (arith, i .loop-test .taken, few-blocks _ (s .args .recording) (s .pre .0))
 
--- src/lib.rt:143:5
 loop-less : tie.Need-loop-less Inv-loop μ-loop
 loop-less c = search needs
 
--- src/lib.rt:143:5
 loop-again : tie.Need-loop-again Inv-loop μ-loop
 loop-again c =
     let n = c .before in
@@ -93,7 +77,6 @@ loop-again c =
     let moves = r .arrive .ensures .0 g (l .inv .is) in
     blocks-go-on _ _ _ _ _ (l .block) _ _ (l .gathering) _ (l .table) _ (r .arrive .result) (i .loop-test .taken) (l .inv) (b .block-start .ensures .0) (n .count-byte .ensures .0) (n .count-byte .ensures .1) moves (c .add .ensures .0 (moved (506 * a .recording .blocks) (b .block-start .result .0) g) (moves .gathering-is)) (c .add .ensures .1 _ _ _ (r .arrive .ensures .1 _ _ (l .inv .near)))
 
--- src/lib.rt:150:5
 close-requires : tie.Need-close-requires Inv-loop μ-loop
 close-requires c κs =
     let l = c .before .before .loop in
@@ -103,18 +86,16 @@ close-requires c κs =
       omega (arith, s .pre .1, l .inv .holds .long),
     )
 
--- src/lib.rt:127:1
 same-length : tie.Need-same-length Inv-loop μ-loop
 same-length c = search needs
 
--- src/lib.rt:127:1
 returns : tie.Need-returns Inv-loop μ-loop
 returns c =
     let k = c .before .before in
     let e = k .before .before in
     let l = e .before .loop in
     let w = blocks-end _ _ _ _ _ (l .block) _ (l .gathering) (l .table) _ (e .loop-test .left) (l .inv) (k .close .ensures .0 _ (l .inv .is)) in
-    (w .0, w .1)
+    (w .0, (omega (arith, k .close .ensures .1, l .inv .near .kept-few, l .inv .below), w .1))
 
 pub write-segments-spec : {M : Type 1} → statement M
 write-segments-spec =
