@@ -5,8 +5,10 @@ use mathlib.Core.Path.{_≡_, refl, sym, ap, _∙_}
 use mathlib.Core.List.{List, _++_}
 use native.Mathlib.Nat.{mul-suc}
 use native.Mathlib.Omega.{arith}
-use lib.ListN.{length, getD, drop, length-append, length-drop, List·getD-append, List·getD-eq-default}
+use lib.ListN.{length, getD, take, drop, length-append, length-drop, List·getD-append, List·getD-eq-default}
 use lib.Seq.{length-take-le, getD-take, getD-drop, getD-append-add}
+use Rattle.tables.specs.Table.{table}
+use Rattle.tables.proofs.Table.{is-table}
 use Rattle.tables.proofs.Cases.{by-order}
 use Rattle.blocks.specs.Places.{Whole, fileOf, blockAt, payloadOf, streamAt}
 use Rattle.blocks.proofs.Places.{stream-in, stream-past}
@@ -60,3 +62,11 @@ longer-agrees f p a n m q whole more h =
     stream-in f a n q h
     ∙ sym (List·getD-append f p 0 (fileOf a q) (omega arith))
     ∙ sym (stream-in (f ++ p) a m q (omega arith))
+
+-- so many bytes of the stream are a part of the payloads joined
+pub stream-part : (f : List ℕ) (a n q size : ℕ) → Whole f a n → q + size ≤ 506 * n
+    → table size (λ k. streamAt f a n (q + k)) ≡ take size (drop q (joined f a n))
+stream-part f a n q size whole there =
+    sym (is-table size (λ k. streamAt f a n (q + k)) (take size (drop q (joined f a n)))
+    (length-take-le size (drop q (joined f a n)) (simp length-drop (omega (arith, joined-long f a n whole))))
+    (λ k h. getD-take size (drop q (joined f a n)) k 0 h ∙ getD-drop q (joined f a n) k 0 ∙ sym (stream-is-joined f a n (q + k) whole)))

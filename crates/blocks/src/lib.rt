@@ -2,7 +2,8 @@
 // Every function here is for the crates above. Rests on tables.
 ghost use mathlib.Core.Path.{_≡_};
 ghost use Prim.Native.Nat.{_+_, _*_, _<_, _≤_, _^_};
-ghost use Rattle.blocks.specs.Places.{wholeBlocks, Whole, fileOf, streamAt, payloadOf};
+ghost use lib.ListN.{length, getD};
+ghost use Rattle.blocks.specs.Places.{wholeBlocks, Whole, fileOf, payloadOf};
 ghost use Rattle.blocks.specs.Headers.{headerByte, swapOf, countOf, announcedIn};
 
 pub const BLOCK: usize = 512;
@@ -80,10 +81,10 @@ pub fn announced(file: &[u8], a: FilePlace, blocks: usize) -> usize
     sum
 }
 
-// The byte at a place of the payload stream of so many whole blocks.
-pub fn stream_byte(file: &[u8], a: FilePlace, blocks: usize, q: StreamPlace) -> u8
-    requires { ⌜ Whole (now file) (a .0) blocks × (q .0 < 506 * blocks) ⌝ }
-    ensures { λ r. ⌜ r ≡ streamAt (now (file .entry)) (a .0) blocks (q .0) ⌝ }
+// The byte at a place of the payload stream that lies in the file.
+pub fn stream_byte(file: &[u8], a: FilePlace, q: StreamPlace) -> u8
+    requires { ⌜ fileOf (a .0) (q .0) < length (now file) ⌝ }
+    ensures { λ r. ⌜ r ≡ getD (now (file .entry)) (fileOf (a .0) (q .0)) 0 ⌝ }
 {
     let place = in_file(a, q);
     let at = place.0;

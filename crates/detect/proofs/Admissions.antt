@@ -11,7 +11,7 @@ use lib.ListN.{length, getD}
 use lib.Dec.{leb}
 use Rattle.tables.proofs.Cases.{by-order}
 use Rattle.tables.proofs.Tests.{told}
-use Rattle.blocks.specs.Places.{limit, wholeBlocks, Whole}
+use Rattle.blocks.specs.Places.{limit, wholeBlocks}
 use Rattle.refusals.specs.Said.{Said, answers, refuses, demand}
 use Rattle.refusals.proofs.Said.{passed, not-both, went-on}
 use Rattle.detect.specs.declared.Kind.{Kind}
@@ -23,7 +23,7 @@ use Rattle.magic.specs.declared.Magic.the-variants.{Dss, Ds2, Encrypted, Grundi
 use Rattle.detect.specs.declared.Recording.{Recording}
 use Rattle.magic.specs.Magics.{magicOf}
 use Rattle.detect.specs.Start.{audioStart}
-use Rattle.detect.specs.Admissions.{recordingAt, admissionAt, admissionBy, admission, typeIn, ofKind, ds2Admission}
+use Rattle.detect.specs.Admissions.{recordingAt, admissionAt, admissionBy, admission, typeIn, ofKind, ds2Admission, Sound}
 
 -- the ways of an admission
 module _ (f : List ℕ) (takes : Bool) (a : ℕ) where
@@ -55,12 +55,6 @@ pub admission-as : {said : Said Recording} (f : List ℕ) (dss ds2 : Bool) {m n 
     → said ≡ admissionBy n f dss ds2 → said ≡ admission f dss ds2
 unfolding admission
 admission-as f dss ds2 p q e = e ∙ ap (λ (m : Magic). admissionBy m f dss ds2) (told q p)
-
--- what holds of a recording that was taken
-pub record Sound (f : List ℕ) (rec : Recording) : Type 0 where
-  pub whole : Whole f (rec .start .0) (rec .blocks)
-  pub all : rec .blocks ≡ wholeBlocks (length f) (rec .start .0)
-  pub within : length f ≤ limit
 
 -- the recording is the one at the audio start, and its header is whole
 recorded : (f : List ℕ) (a : ℕ) (rec : Recording) → admissionAt f a ≡ answers rec

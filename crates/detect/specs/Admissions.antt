@@ -1,11 +1,12 @@
 -- What every whole call does first: magic, limit, audio start, and for a reading of one kind the type. Refusals 1, 2, 3 and 11 with
 -- the numbers beside them, or the recording. Assumes nothing.
-use Prim.Native.Nat.{ℕ, _*_}
+use Prim.Native.Nat.{ℕ, _*_, _≤_}
+use mathlib.Core.Path.{_≡_}
 use mathlib.Core.List.{List}
 use mathlib.Core.Bool.{Bool, true, false}
 use lib.ListN.{getD, length}
 use lib.Dec.{leb}
-use Rattle.blocks.specs.Places.{limit, wholeBlocks}
+use Rattle.blocks.specs.Places.{limit, wholeBlocks, Whole, streamAt}
 use Rattle.refusals.specs.Said.{Said, answers, refuses, refusal, demand, onward}
 use Rattle.magic.specs.declared.Magic.{Magic}
 use Rattle.magic.specs.declared.Magic.the-variants.{Dss, Ds2, Encrypted, Grundig, Other}
@@ -57,3 +58,13 @@ ofKind f kind rec = demand (readAs (typeIn f rec) kind) 11 (typeIn f rec) (answe
 
 unfoldable pub ds2Admission : List ℕ → Kind → Said Recording
 ds2Admission f kind = onward (admission f false true) (ofKind f kind)
+
+-- what holds of a recording that was taken
+pub record Sound (f : List ℕ) (rec : Recording) : Type 0 where
+  pub whole : Whole f (rec .start .0) (rec .blocks)
+  pub all : rec .blocks ≡ wholeBlocks (length f) (rec .start .0)
+  pub within : length f ≤ limit
+
+-- its payload stream
+abbrev pub streamIn : List ℕ → Recording → ℕ → ℕ
+streamIn f rec = streamAt f (rec .start .0) (rec .blocks)

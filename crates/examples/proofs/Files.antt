@@ -5,7 +5,7 @@ use mathlib.Core.Path.{_≡_, refl, sym, ap, _∙_}
 use mathlib.Core.List.{List}
 use mathlib.Core.Bool.{true, false}
 use native.Mathlib.Omega.{arith}
-use borrow.Author.Tests.{le-ltb, lt-ltb}
+use borrow.Author.Tests.{le-ltb}
 use lib.ListN.{length, drop}
 use Rattle.tables.specs.Table.{table, sum}
 use Rattle.tables.proofs.Table.{same-table}
@@ -20,10 +20,10 @@ use Rattle.detect.specs.declared.Kind.{Kind}
 use Rattle.detect.specs.declared.Kind.the-variants.{Sp}
 use Rattle.detect.specs.Header.{goodHeader}
 use Rattle.detect.specs.Start.{audioStart}
-use Rattle.detect.specs.Kinds.{formatType, readAs}
+use Rattle.detect.specs.Kinds.{formatType}
 use Rattle.detect.specs.Admissions.{admissionAt, admission, typeIn, ds2Admission}
 use Rattle.detect.proofs.Admissions.{ds2-at, admitted, ds2-goes-on, of-that-kind}
-use Rattle.detect.proofs.Types.{type-here, sp-is-0-to-5}
+use Rattle.detect.proofs.Types.{type-here}
 use Rattle.detect.proofs.Rules.{none-good-start}
 use Rattle.packets.specs.Packet.{fileCount}
 use Rattle.packets.specs.Walk.{reach, parity}

@@ -1,45 +1,30 @@
 -- The example that speaks of every QP7 file of one block.
 -- Assumes nothing.
-use Prim.Native.Nat.{ℕ, zero, suc, _+_, _*_, _≤_, _<_, max}
-use mathlib.Core.Path.{_≡_, refl, sym, ap, _∙_, subst}
+use Prim.Native.Nat.{ℕ, zero, suc, _+_, _*_, _≤_, _<_}
+use mathlib.Core.Path.{_≡_, refl, sym, ap, _∙_}
 use mathlib.Core.List.{List}
-use mathlib.Core.Bool.{false}
 use native.Mathlib.Nat.{zero-add}
 use native.Mathlib.Omega.{arith}
-use borrow.Author.Tests.{le-leb, lt-leb, ne-eqb}
+use borrow.Author.Tests.{ne-eqb}
 use Rattle.blocks.specs.Places.{streamAt}
 use Rattle.blocks.specs.Headers.{firstOf, countOf}
-use Rattle.refusals.specs.Said.{Said, answers, refuses, onward}
+use Rattle.refusals.specs.Said.{refuses}
 use Rattle.detect.specs.declared.Kind.the-variants.{Qp7}
 use Rattle.frames.specs.Start.{framesStart}
 use Rattle.qp7.specs.Records.{recordSize, recordAt}
 use Rattle.qp7.specs.Walk.{Gathered, nothing, noted, raised, reads, withBlock, gatheredTo, gatheredFrom, qp7Reading}
-use Rattle.examples.specs.Bench.{Ds2File, AllLong, Example5}
-use Rattle.examples.proofs.Files.{recordingOf, taken-as}
-
--- a record of 56 bytes that fits is read, one that does not is refused by 5, and where no second byte is left, by 4
-module _ (s : ℕ → ℕ) (long q : ℕ) where
-  is-long : q + 56 ≤ long → recordSize (s (q + 1)) ≡ 56 → recordAt s long q ≡ answers 56
-  unfolding recordAt
-  is-long fits size = simp (size, le-leb (q + 2) long (omega arith), le-leb (q + 56) long fits)
-
-  is-cut : q + 2 ≤ long → long < q + 56 → recordSize (s (q + 1)) ≡ 56 → recordAt s long q ≡ refuses 5 q
-  unfolding recordAt
-  is-cut some over size = simp (size, le-leb (q + 2) long some, lt-leb (q + 56) long over)
-
-  is-none : long < q + 2 → recordAt s long q ≡ refuses 4 q
-  unfolding recordAt
-  is-none none = simp (lt-leb (q + 2) long none)
+use Rattle.qp7.proofs.Records.{no-selector, runs-past, record-there}
+use Rattle.qp7.proofs.Reading.{reads-more}
+use Rattle.examples.specs.Bench.{Ds2File, Example5}
+use Rattle.examples.proofs.Files.{taken-as}
 
 -- one record is read, and so many are left; or none can be
 module _ (s : ℕ → ℕ) (long n : ℕ) (g : Gathered) where
-  reads-on : recordAt s long (g .place) ≡ answers 56 → reads s long (suc n) g ≡ reads s long n (noted 56 g)
-  unfolding reads
-  reads-on is = rw is
+  reads-on : g .place + 56 ≤ long → recordSize (s (g .place + 1)) ≡ 56 → reads s long (suc n) g ≡ reads s long n (noted 56 g)
+  reads-on fits size = reads-more s long (suc n) n g refl ∙ rw (← record-there s long (g .place) 56 (omega arith) (sym size) fits)
 
-  reads-stop : (number beside : ℕ) → recordAt s long (g .place) ≡ refuses number beside → reads s long (suc n) g ≡ refuses number beside
-  unfolding reads
-  reads-stop number beside is = rw is
+  reads-stop : (number beside : ℕ) → refuses number beside ≡ recordAt s long (g .place) → reads s long (suc n) g ≡ refuses number beside
+  reads-stop number beside is = reads-more s long (suc n) n g refl ∙ rw (← is)
 
 -- after m long records that fit, the rest is read 56 m bytes on
 after-long : (s : ℕ → ℕ) (long m n : ℕ) (g : Gathered)
@@ -51,7 +36,7 @@ after-long s long (suc m) n g each =
     let rest = after-long s long m n (noted 56 g) (λ k h. later k h) in
     let count : suc m + n ≡ suc (m + n) = omega arith in (
       rest .0,
-      ap (λ (x : ℕ). reads s long x g) count ∙ reads-on s long (m + n) g (is-long s long (g .place) (omega (arith, first .0)) (size first)) ∙ rest .1,
+      ap (λ (x : ℕ). reads s long x g) count ∙ reads-on s long (m + n) g (omega (arith, first .0)) (size first) ∙ rest .1,
       omega (arith, rest .2),
     )
   where
@@ -75,12 +60,12 @@ refused-block f number beside file is =
 
 -- 9 long records from a start on, and then a tenth that is refused
 tenth : (s : ℕ → ℕ) (start number : ℕ) (g : Gathered) → g .place ≡ start → start ≤ 2
-    → ((k : ℕ) → start + 56 * k + 2 ≤ 506 → recordSize (s (start + 56 * k + 1)) ≡ 56) → recordAt s 506 (start + 504) ≡ refuses number (start + 504)
+    → ((k : ℕ) → start + 56 * k + 2 ≤ 506 → recordSize (s (start + 56 * k + 1)) ≡ 56) → refuses number (start + 504) ≡ recordAt s 506 (start + 504)
     → reads s 506 10 g ≡ refuses number (start + 504)
 tenth s start number g at few each last =
     let rest = after-long s 506 9 1 g (λ k h. (omega (arith, at), rw at (each k (omega arith)))) in
     let there : rest .0 .place ≡ start + 504 = omega (arith, rest .2, at) in
-    rest .1 ∙ reads-stop s 506 0 (rest .0) number (start + 504) (ap (recordAt s 506) there ∙ last)
+    rest .1 ∙ reads-stop s 506 0 (rest .0) number (start + 504) (last ∙ ap (recordAt s 506) (sym there))
 
 pub five-holds : Example5
 unfolding framesStart
@@ -88,8 +73,8 @@ five-holds f file ten = (
   (λ three long.
       refused-block f 5 504 file
       (rw (ten, three)
-      (tenth (streamAt f 1536 1) 0 5 (raised 0 nothing) refl (omega arith) long (is-cut (streamAt f 1536 1) 506 504 (omega arith) (omega arith) (long 9 (omega arith)))))),
+      (tenth (streamAt f 1536 1) 0 5 (raised 0 nothing) refl (omega arith) long (runs-past (streamAt f 1536 1) 506 504 56 (omega arith) (sym (long 9 (omega arith))) (omega arith))))),
   (λ four long.
       refused-block f 4 506 file
-      (rw (ten, four) (tenth (streamAt f 1536 1) 2 4 (raised 2 nothing) refl (omega arith) long (is-none (streamAt f 1536 1) 506 506 (omega arith))))),
+      (rw (ten, four) (tenth (streamAt f 1536 1) 2 4 (raised 2 nothing) refl (omega arith) long (no-selector (streamAt f 1536 1) 506 506 (omega arith))))),
 )

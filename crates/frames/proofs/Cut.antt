@@ -1,14 +1,15 @@
 -- Laws of a segment's bytes cut by 56, and of the frames that are found and fetched one after another: they are the parts so cut.
 -- Assumes nothing.
-use Prim.Native.Nat.{ℕ, zero, suc, _+_, _*_, _-_, _≤_, _<_, _^_, min}
+use Prim.Native.Nat.{ℕ, zero, suc, _+_, _*_, _-_, _≤_, _<_, _^_}
 use mathlib.Core.Path.{_≡_, refl, sym, ap, _∙_}
 use mathlib.Core.List.{List, [], _∷_, _++_}
 use mathlib.Core.Bool.{true, false}
-use native.Mathlib.Nat.{not-suc-le-zero, le-of-suc-le-suc, sub-zero, zero-sub, suc-sub-suc}
+use native.Mathlib.Nat.{not-suc-le-zero, le-of-suc-le-suc}
 use native.Mathlib.Omega.{arith}
 use borrow.Author.Tests.{ne-eqb}
 use lib.ListN.{length, getD, take, drop, length-take, length-drop}
-use lib.Seq.{take-all, take-take, take-nil, drop-drop}
+use lib.Seq.{drop-drop}
+use Rattle.tables.proofs.Parts.{take-least, drop-of-take}
 use Rattle.tables.proofs.Cases.{by-order}
 use Rattle.blocks.specs.Stream.{joined}
 use Rattle.blocks.proofs.Stream.{joined-long}
@@ -22,13 +23,13 @@ use Rattle.frames.proofs.Frames.{frame-found, frame-missing, handed-amo
 use Rattle.frames.proofs.Shown.{can-be-fetched, fetched-joined}
 
 -- nothing is cut into no parts
-pub cut-none : (n : ℕ) → cut n [] ≡ []
+cut-none : (n : ℕ) → cut n [] ≡ []
 unfolding cut
 cut-none zero = refl
 cut-none (suc n) = refl
 
 -- and some bytes into their first 56 and the parts of the rest
-pub cut-more : (n : ℕ) (bytes : List ℕ) → 0 < length bytes → cut (suc n) bytes ≡ take 56 bytes ∷ cut n (drop 56 bytes)
+cut-more : (n : ℕ) (bytes : List ℕ) → 0 < length bytes → cut (suc n) bytes ≡ take 56 bytes ∷ cut n (drop 56 bytes)
 unfolding cut
 cut-more n [] some = absurd (not-suc-le-zero some)
 cut-more n (byte ∷ bytes) some = refl
@@ -49,22 +50,6 @@ cut-long (suc n) [] k h = omega arith
 cut-long (suc n) (byte ∷ bytes) zero h = length-take 56 (byte ∷ bytes) ∙ omega arith
 cut-long (suc n) (byte ∷ bytes) (suc k) h =
     cut-long n (drop 56 (byte ∷ bytes)) k (le-of-suc-le-suc h) ∙ omega (arith, length-drop 56 (byte ∷ bytes))
-
--- the first m of the first n
-take-least : (m n : ℕ) (l : List ℕ) → take m (take n l) ≡ take (min m n) l
-take-least m n l =
-    by-order n m
-    (λ h.
-    let least : min m n ≡ n = omega arith in
-    rw least (take-all m (take n l) (simp length-take (omega arith))))
-    (λ h. let least : min m n ≡ m = omega arith in rw least (take-take m n l h))
-
--- the first n without their first m
-drop-of-take : (m n : ℕ) (l : List ℕ) → drop m (take n l) ≡ take (n - m) (drop m l)
-drop-of-take zero n l = rw sub-zero
-drop-of-take (suc m) zero l = rw zero-sub
-drop-of-take (suc m) (suc n) [] = sym (take-nil (suc n - suc m))
-drop-of-take (suc m) (suc n) (byte ∷ l) = rw suc-sub-suc (drop-of-take m n l)
 
 -- what is left of a segment from its frame k on
 abbrev leftFrom : List ℕ → ℕ → ℕ → ℕ → List ℕ

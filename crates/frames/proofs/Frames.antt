@@ -41,7 +41,7 @@ module _ (start long k : ℕ) where
       ap (λ (place : ℕ). found place (r .size)) (none .0) ∙ ap (found 0) (none .1) ∙ sym e
 
 -- each of the first n is such or is not
-pub all-counted : (n : ℕ) (such : ℕ → Bool) → howMany n (λ k. not (such k)) + howMany n such ≡ n
+all-counted : (n : ℕ) (such : ℕ → Bool) → howMany n (λ k. not (such k)) + howMany n such ≡ n
 unfolding howMany
 all-counted zero such = refl
 all-counted (suc n) such =
@@ -49,7 +49,7 @@ all-counted (suc n) such =
     by-test (such n) (λ h. simp h (omega arith)) (λ h. simp h (omega arith))
 
 -- none of the first n is such
-pub none-such : (n : ℕ) (such : ℕ → Bool) → ((k : ℕ) → k < n → such k ≡ false) → howMany n such ≡ 0
+none-such : (n : ℕ) (such : ℕ → Bool) → ((k : ℕ) → k < n → such k ≡ false) → howMany n such ≡ 0
 unfolding howMany
 none-such zero such none = refl
 none-such (suc n) such none =
@@ -58,7 +58,7 @@ none-such (suc n) such none =
     simp (before, last)
 
 -- one of the first n is such, and no other
-pub one-such : (n : ℕ) (such : ℕ → Bool) (j : ℕ) → j < n → such j ≡ true → ((k : ℕ) → (k ≡ j → ⊥) → such k ≡ false) → howMany n such ≡ 1
+one-such : (n : ℕ) (such : ℕ → Bool) (j : ℕ) → j < n → such j ≡ true → ((k : ℕ) → (k ≡ j → ⊥) → such k ≡ false) → howMany n such ≡ 1
 unfolding howMany
 one-such zero such j there is others = absurd (not-suc-le-zero there)
 one-such (suc n) such j there is others =
@@ -113,7 +113,7 @@ short-is long n all =
     ∙ simp (ne-eqb (long % 56) 0 e))
 
 -- the sizes of the first n add up to what of the segment lies before frame n
-pub sizes-sum : (n long : ℕ) → sum (table n (frameSize long)) ≡ min (56 * n) long
+sizes-sum : (n long : ℕ) → sum (table n (frameSize long)) ≡ min (56 * n) long
 unfolding sum table
 sizes-sum zero long = omega arith
 sizes-sum (suc n) long =

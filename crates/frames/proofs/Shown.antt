@@ -12,9 +12,9 @@ use Rattle.tables.specs.Table.{table}
 use Rattle.tables.specs.Lent.{over}
 use Rattle.tables.proofs.Table.{is-table, length-table}
 use Rattle.tables.proofs.Lent.{over-long, over-in, over-leaves}
-use Rattle.blocks.specs.Places.{Whole, fileOf, streamAt}
+use Rattle.blocks.specs.Places.{fileOf, streamAt}
 use Rattle.blocks.specs.Stream.{joined}
-use Rattle.blocks.proofs.Stream.{joined-long, stream-is-joined, together}
+use Rattle.blocks.proofs.Stream.{stream-part, together}
 use Rattle.refusals.specs.Said.{answers, refuses}
 use Rattle.refusals.proofs.Said.{not-both}
 use Rattle.detect.specs.declared.Recording.{Recording}
@@ -34,14 +34,6 @@ pub can-be-fetched : (f : List ℕ) (rec : Recording) (q size room : ℕ) → ad
 can-be-fetched f rec q size room admitted some most there roomy =
     let can : canFetch (rec .blocks) q size room ≡ true = sym (room-decides (rec .blocks) q size room some most there) ∙ le-leb 56 room roomy in
     sym (fetch-asks f q size room rec (sym admitted) (goes-on (answers rec) refl can))
-
--- so many bytes of the stream are a part of the payloads joined
-pub stream-part : (f : List ℕ) (a n q size : ℕ) → Whole f a n → q + size ≤ 506 * n
-    → table size (λ k. streamAt f a n (q + k)) ≡ take size (drop q (joined f a n))
-stream-part f a n q size whole there =
-    sym (is-table size (λ k. streamAt f a n (q + k)) (take size (drop q (joined f a n)))
-    (length-take-le size (drop q (joined f a n)) (simp length-drop (omega (arith, joined-long f a n whole))))
-    (λ k h. getD-take size (drop q (joined f a n)) k 0 h ∙ getD-drop q (joined f a n) k 0 ∙ sym (stream-is-joined f a n (q + k) whole)))
 
 -- where a frame can be fetched
 module _ (f : List ℕ) (rec : Recording) (q size : ℕ) (scratch : List ℕ) (c : Fetchable f rec q size (length scratch)) where
@@ -65,7 +57,7 @@ module _ (f : List ℕ) (rec : Recording) (q size : ℕ) (scratch : List ℕ) (c
       ∙ over-in size (streamFrom f rec q) scratch k l (omega (arith, c .most, c .roomy)))
 
   -- filled and then shown, it is the stream's bytes
-  pub filled-then-shown : shownFrom f rec q size (filledFrom f rec q size scratch) ≡ table size (streamFrom f rec q)
+  filled-then-shown : shownFrom f rec q size (filledFrom f rec q size scratch) ≡ table size (streamFrom f rec q)
   filled-then-shown =
       by-test (isInside q size) (λ h. simp h (in-file-shown h)) (λ h. simp h in-scratch-shown)
 
@@ -83,11 +75,11 @@ module _ (f : List ℕ) (rec : Recording) (q size : ℕ) (scratch : List ℕ) (c
 
 -- by what the request says
 module _ (f : List ℕ) (q size : ℕ) (scratch : List ℕ) where
-  pub filled-as : (rec : Recording) → fetchFrom f q size (length scratch) ≡ answers rec → filled f q size scratch ≡ filledFrom f rec q size scratch
+  filled-as : (rec : Recording) → fetchFrom f q size (length scratch) ≡ answers rec → filled f q size scratch ≡ filledFrom f rec q size scratch
   unfolding filled
   filled-as rec e = rw e
 
-  pub filled-not : (number beside : ℕ) → fetchFrom f q size (length scratch) ≡ refuses number beside → filled f q size scratch ≡ scratch
+  filled-not : (number beside : ℕ) → fetchFrom f q size (length scratch) ≡ refuses number beside → filled f q size scratch ≡ scratch
   unfolding filled
   filled-not number beside e = rw e
 
@@ -117,7 +109,7 @@ module _ (f : List ℕ) (q size : ℕ) (scratch : List ℕ) where
   filled-keeps = filled-either (λ (l : List ℕ). length l ≡ length scratch) refl (λ rec c. filled-long f rec q size scratch)
 
   -- so the second call answers as the first
-  pub asked-again : (rec : Recording) → fetchFrom f q size (length scratch) ≡ answers rec
+  asked-again : (rec : Recording) → fetchFrom f q size (length scratch) ≡ answers rec
       → fetchFrom f q size (length (filled f q size scratch)) ≡ answers rec
   asked-again rec e = rw filled-keeps e
 

@@ -7,10 +7,10 @@ use mathlib.Core.Bool.{Bool, true, false, cond, _&&_}
 use lib.ListN.{length, take, drop}
 use lib.Dec.{leb}
 use Rattle.tables.specs.Lent.{over}
-use Rattle.blocks.specs.Places.{Whole, fileOf, streamAt}
+use Rattle.blocks.specs.Places.{Whole, fileOf}
 use Rattle.refusals.specs.Said.{Said, answers, refuses, refusal, demand, onward}
 use Rattle.detect.specs.declared.Recording.{Recording}
-use Rattle.detect.specs.Admissions.{admission}
+use Rattle.detect.specs.Admissions.{admission, streamIn}
 use Rattle.frames.specs.declared.Fetched.{Fetched}
 use Rattle.frames.specs.declared.Fetched.the-variants.{InFile, InScratch, Refused}
 
@@ -48,7 +48,7 @@ fetchedSays (Refused why) = refusal why
 -- the scratch after the first call: its start holds the frame if that crosses a block, and nothing else is changed
 abbrev pub filledFrom : List ℕ → Recording → ℕ → ℕ → List ℕ → List ℕ
 filledFrom f rec q size scratch =
-    cond (isInside q size) scratch (over size (λ k. streamAt f (rec .start .0) (rec .blocks) (q + k)) scratch)
+    cond (isInside q size) scratch (over size (λ k. streamIn f rec (q + k)) scratch)
 
 abbrev pub filledBy : List ℕ → Said Recording → ℕ → ℕ → List ℕ → List ℕ
 filledBy f (answers rec) q size scratch = filledFrom f rec q size scratch

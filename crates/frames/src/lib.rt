@@ -10,10 +10,10 @@ ghost use mathlib.Core.Path.{_≡_};
 ghost use Prim.Native.Nat.{_+_, _*_, _<_, _≤_, _^_};
 ghost use lib.ListN.{length};
 ghost use Rattle.tables.specs.Lent.{Leaves};
-ghost use Rattle.blocks.specs.Places.{Whole, fileOf, streamAt};
+ghost use Rattle.blocks.specs.Places.{Whole, fileOf};
 ghost use Rattle.blocks.specs.Headers.{firstOf};
 ghost use Rattle.refusals.specs.Said.{answers, demand};
-ghost use Rattle.detect.specs.Admissions.{admissionSays};
+ghost use Rattle.detect.specs.Admissions.{admissionSays, streamIn};
 ghost use Rattle.frames.specs.Start.{framesStart};
 ghost use Rattle.frames.specs.Frames.{frameOf};
 ghost use Rattle.frames.specs.Fetch.{canFetch, fetchFrom, isInside, standIn, standing, fetchedSays, filledFrom, shownFrom, shown, Fills, Fetchable};
@@ -60,6 +60,7 @@ pub fn block_start(file: &[u8], a: FilePlace, block: usize) -> StreamPlace
     frames_start(block, byte1)
 }
 
+// What is found of a missing frame.
 fn no_frame() -> Found
     ensures { λ r. ⌜ (r .place .0 ≡ 0) × (r .size ≡ 0) ⌝ }
 {
@@ -153,15 +154,14 @@ fn take_frame(
     scratch: &mut [u8],
 )
     requires { ⌜ Whole (now file) (recording .start .0) (recording .blocks) × (place .0 + size ≤ 506 * recording .blocks) × (size ≤ length (now scratch)) ⌝ }
-    ensures { λ _. ⌜ Leaves (now (scratch .entry)) 0 size (λ k. streamAt (now (file .entry)) (recording .start .0) (recording .blocks) (place .0 + k)) (now (scratch .exit)) ⌝ }
+    ensures { λ _. ⌜ Leaves (now (scratch .entry)) 0 size (λ k. streamIn (now (file .entry)) recording (place .0 + k)) (now (scratch .exit)) ⌝ }
 {
     let start = recording.start;
-    let blocks = recording.blocks;
     let first = place.0;
     let mut k = 0;
     while k < size {
         let at = first + k;
-        scratch[k] = blocks::stream_byte(file, start, blocks, StreamPlace(at));
+        scratch[k] = blocks::stream_byte(file, start, StreamPlace(at));
         k += 1;
     }
 }
@@ -239,7 +239,7 @@ fn show_from<'a>(
     &scratch[0..size]
 }
 
-// The second: shows the frame as a part of the file or of the scratch, and an empty part where it refuses.
+// The second of the two calls that fetch a frame: shows it as a part of the file or of the scratch, and an empty part where it refuses.
 pub fn show<'a>(file: &'a [u8], place: StreamPlace, size: usize, scratch: &'a [u8]) -> &'a [u8]
     ensures { λ r. ⌜ now r ≡ shown (now (file .entry)) (place .0) size (now (scratch .entry)) ⌝ }
 {

@@ -14,7 +14,8 @@ use Rattle.frames.specs.Start.{framesStart}
 use Rattle.qp.specs.declared.Gathering.{Gathering}
 use Rattle.qp.specs.Segments.{Gathered, nothing, closed, moved, arrived, counted, gatheredTo}
 use Rattle.qp.specs.Outcome.{entryOf}
-use Rattle.qp.specs.Written.{standing, Near, Holds, Closes, Moves}
+use Rattle.qp.specs.Written.{numbersOf, Near, Holds, Closes, Moves}
+use Rattle.qp.proofs.Gathers.{near-within}
 
 -- before the first block nothing is gathered, so that block 0 arrives like any other
 moved-first : (long q : ℕ) → moved long q nothing ≡ arrived long 0 q nothing
@@ -41,16 +42,16 @@ gathered-none f a n = refl
 -- after b blocks
 pub record Blockwise (f : List ℕ) (a n most : ℕ) (table₀ : List ℕ) (b : ℕ) (gathering : Gathering) (table : List ℕ) : Type 0 where
   pub below : b ≤ n
-  pub is : gathering ≡ standing (gatheredTo f a n b)
+  pub is : gathering ≡ numbersOf (gatheredTo f a n b)
   pub near : Near (506 * n) (255 * b) b gathering
   pub holds : Holds most (gatheredTo f a n b .kept) table₀ table
 
 module _ (f : List ℕ) (a n most : ℕ) (table₀ : List ℕ) where
-  pub blocks-begin : Blockwise f a n most table₀ 0 (standing nothing) table₀
+  pub blocks-begin : Blockwise f a n most table₀ 0 (numbersOf nothing) table₀
   blocks-begin =
       record {
         below = omega arith;
-        is = ap standing (sym (gathered-none f a n));
+        is = ap numbersOf (sym (gathered-none f a n));
         near = record { start-in = omega arith; place-is = omega arith; frames-few = omega arith; kept-few = omega arith };
         holds = subst (λ (g : Gathered). Holds most (g .kept) table₀ table₀) (sym (gathered-none f a n)) (fronts-begin entryOf table₀ (4 * most));
       }
@@ -58,7 +59,7 @@ module _ (f : List ℕ) (a n most : ℕ) (table₀ : List ℕ) where
   pub blocks-go-on : (b q count : ℕ) (gathering next : Gathering) (table table′ : List ℕ) (came : Gathering) → b < n
       → Blockwise f a n most table₀ b gathering table → q ≡ framesStart b (firstOf f a b) → count ≡ countOf f a b → count ≤ 255
       → Moves (506 * n) q most (gatheredTo f a n b) table table′ came
-      → next ≡ standing (counted count (moved (506 * n) q (gatheredTo f a n b))) → Near (506 * n) (255 * b + count) (b + 1) next
+      → next ≡ numbersOf (counted count (moved (506 * n) q (gatheredTo f a n b))) → Near (506 * n) (255 * b + count) (b + 1) next
       → Blockwise f a n most table₀ (b + 1) next table′
   blocks-go-on b q count gathering next table table′ came inside w at is few m next-is near =
       let same : counted count (moved (506 * n) q (gatheredTo f a n b)) ≡ gatheredTo f a n (b + 1) =
@@ -67,14 +68,8 @@ module _ (f : List ℕ) (a n most : ℕ) (table₀ : List ℕ) where
       ∙ sym (gathered-more f a n b) in
       record {
         below = omega arith;
-        is = next-is ∙ ap standing same;
-        near =
-            record {
-              start-in = near .start-in;
-              place-is = near .place-is;
-              frames-few = omega (arith, near .frames-few);
-              kept-few = near .kept-few;
-            };
+        is = next-is ∙ ap numbersOf same;
+        near = near-within (506 * n) (255 * b + count) (b + 1) next near (255 * (b + 1)) (b + 1) (omega arith) (omega arith);
         holds = subst (λ (g : Gathered). Holds most (g .kept) table₀ table′) same (m .written table₀ (w .holds));
       }
 

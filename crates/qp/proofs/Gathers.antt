@@ -13,7 +13,7 @@ use Rattle.qp.specs.declared.Segment.{Segment}
 use Rattle.qp.specs.declared.Gathering.{Gathering}
 use Rattle.qp.specs.Segments.{Gathered, nothing, openSegment, closed, begun, moved, counted}
 use Rattle.qp.specs.Outcome.{entryOf, words}
-use Rattle.qp.specs.Written.{standing, Near, Holds, Closes, Moves}
+use Rattle.qp.specs.Written.{numbersOf, Near, Holds, Closes, Moves}
 
 -- a segment with no frames is not kept, and one with frames is
 pub closed-none : (long : ℕ) (g : Gathered) → g .frames ≤ 0 → closed long g ≡ g .kept
@@ -25,7 +25,7 @@ unfolding closed
 closed-some long g some = simp (lt-ltb 0 (g .frames) some)
 
 -- in the code's numbers: nothing is put, and none more is kept
-pub closes-none : (long most : ℕ) (g : Gathered) (gathering : Gathering) (table : List ℕ) → gathering ≡ standing g → gathering .frames ≡ 0
+pub closes-none : (long most : ℕ) (g : Gathered) (gathering : Gathering) (table : List ℕ) → gathering ≡ numbersOf g → gathering .frames ≡ 0
     → Closes long most g table table (gathering .kept)
 closes-none long most g gathering table is none =
     let same : closed long g ≡ g .kept = closed-none long g (omega (arith, ap (λ (x : Gathering). x .frames) is, none)) in
@@ -35,7 +35,7 @@ closes-none long most g gathering table is none =
     }
 
 -- or the open segment's entry is put, and one more is kept
-pub closes-some : (long most : ℕ) (g : Gathered) (gathering : Gathering) (stop reset : ℕ) (table table′ : List ℕ) → gathering ≡ standing g
+pub closes-some : (long most : ℕ) (g : Gathered) (gathering : Gathering) (stop reset : ℕ) (table table′ : List ℕ) → gathering ≡ numbersOf g
     → stop ≡ min (gathering .place .0) long → reset ≡ min 1 (gathering .kept) → 0 < gathering .frames
     → Puts table (gathering .kept) most
     (entryOf (record { start = gathering .start; long = stop - gathering .start .0; frames = gathering .frames; reset = reset })) table′
@@ -62,18 +62,18 @@ closes-some long most g gathering stop reset table table′ is =
         }
 
 -- a block that starts at the read place goes on with the segment
-pub moves-on : (long q most : ℕ) (g : Gathered) (gathering : Gathering) (table : List ℕ) → gathering ≡ standing g → q ≡ gathering .place .0
+pub moves-on : (long q most : ℕ) (g : Gathered) (gathering : Gathering) (table : List ℕ) → gathering ≡ numbersOf g → q ≡ gathering .place .0
     → Moves long q most g table table gathering
 unfolding moved
 moves-on long q most g gathering table is there =
     let same : moved long q g ≡ g = simp (eq-eqb q (g .place) (there ∙ ap (λ (x : Gathering). x .place .0) is)) in
     record {
-      gathering-is = is ∙ ap standing (sym same);
+      gathering-is = is ∙ ap numbersOf (sym same);
       written = λ d h. subst (λ (x : Gathered). Holds most (x .kept) d table) (sym same) h;
     }
 
 -- one that starts elsewhere closes the segment and begins its own
-pub moves-away : (long most : ℕ) (at : StreamPlace) (g : Gathered) (gathering : Gathering) (table table′ : List ℕ) (kept : ℕ) → gathering ≡ standing g
+pub moves-away : (long most : ℕ) (at : StreamPlace) (g : Gathered) (gathering : Gathering) (table table′ : List ℕ) (kept : ℕ) → gathering ≡ numbersOf g
     → (at .0 ≡ gathering .place .0 → ⊥) → Closes long most g table table′ kept
     → Moves long (at .0) most g table table′ (record { start = at; place = at; frames = 0; kept = kept })
 unfolding moved
@@ -81,14 +81,14 @@ moves-away long most at g gathering table table′ kept is away c =
     let same : moved long (at .0) g ≡ begun (closed long g) (at .0) =
     simp (ne-eqb (at .0) (g .place) (λ e. away (e ∙ sym (ap (λ (x : Gathering). x .place .0) is)))) in
     record {
-      gathering-is = ap (λ (n : ℕ). record { start = at; place = at; frames = 0; kept = n }) (c .kept-is) ∙ ap standing (sym same);
+      gathering-is = ap (λ (n : ℕ). record { start = at; place = at; frames = 0; kept = n }) (c .kept-is) ∙ ap numbersOf (sym same);
       written = λ d h. subst (λ (x : Gathered). Holds most (x .kept) d table′) (sym same) (c .written d h);
     }
 
 -- a block's count is added
-pub adds : (count : ℕ) (g : Gathered) (gathering : Gathering) → gathering ≡ standing g
+pub adds : (count : ℕ) (g : Gathered) (gathering : Gathering) → gathering ≡ numbersOf g
     → record { start = gathering .start; place = record { 0 = gathering .place .0 + 56 * count }; frames = gathering .frames + count; kept = gathering .kept }
-    ≡ standing (counted count g)
+    ≡ numbersOf (counted count g)
 adds count g gathering is =
     ap
     (λ (x : Gathering). record { start = x .start; place = record { 0 = x .place .0 + 56 * count }; frames = x .frames + count; kept = x .kept })
@@ -96,15 +96,17 @@ adds count g gathering is =
 
 -- and all of it stays small
 module _ (long frames kept : ℕ) (gathering : Gathering) (near : Near long frames kept gathering) where
-  pub near-on : Near long frames (kept + 1) gathering
-  near-on =
+  -- within larger bounds
+  pub near-within : (frames′ kept′ : ℕ) → frames ≤ frames′ → kept ≤ kept′ → Near long frames′ kept′ gathering
+  near-within frames′ kept′ more further =
       record {
         start-in = near .start-in;
         place-is = near .place-is;
-        frames-few = near .frames-few;
-        kept-few = omega (arith, near .kept-few);
+        frames-few = omega (arith, near .frames-few, more);
+        kept-few = omega (arith, near .kept-few, further);
       }
 
+  -- where a segment is begun, and where frames follow
   pub near-away : (at : StreamPlace) (n : ℕ) → at .0 ≤ long → n ≤ gathering .kept + 1
       → Near long frames (kept + 1) (record { start = at; place = at; frames = 0; kept = n })
   near-away at n in-stream few =
@@ -119,14 +121,4 @@ module _ (long frames kept : ℕ) (gathering : Gathering) (near : Near long fram
         place-is = omega (arith, near .place-is);
         frames-few = omega (arith, near .frames-few);
         kept-few = near .kept-few;
-      }
-
-  -- within larger bounds
-  pub near-within : (most : ℕ) → frames ≤ most → kept ≤ most → Near long most most gathering
-  near-within most few fewer =
-      record {
-        start-in = near .start-in;
-        place-is = near .place-is;
-        frames-few = omega (arith, near .frames-few);
-        kept-few = omega (arith, near .kept-few);
       }

@@ -1,20 +1,20 @@
 -- What holds of the segments that are kept: their frame totals, where they lie, and their resets.
 -- Assumes nothing.
 use Prim.Native.Nat.{ℕ, zero, suc, _+_, _*_, _≤_, _<_, min}
-use mathlib.Core.Path.{_≡_, refl, sym, ap, _∙_, subst}
+use mathlib.Core.Path.{_≡_, refl, sym, _∙_, subst}
 use mathlib.Core.List.{List, [], _∷_, _++_}
 use native.Mathlib.Omega.{arith}
 use native.Mathlib.Numerals.{add-one}
 use native.Mathlib.Nat.{not-suc-le-zero}
 use borrow.Author.Tests.{eq-eqb, ne-eqb}
-use lib.ListN.{length, getD, length-append, List·getD-append}
-use lib.Seq.{getD-append-seam}
+use lib.ListN.{length, getD}
 use Rattle.tables.specs.Table.{sumOf, Each}
 use Rattle.tables.proofs.Cases.{by-order, by-equal}
-use Rattle.tables.proofs.Table.{sum-more, sum-none, each-none, each-more}
+use Rattle.tables.proofs.Table.{sum-more, sum-none, each-none, each-more, place-more}
 use Rattle.blocks.specs.Headers.{Bytes, firstOf, countOf, announcedIn}
 use Rattle.blocks.proofs.Headers.{announced-none, announced-more}
 use Rattle.frames.specs.Start.{framesStart}
+use Rattle.frames.proofs.Start.{starts-inside}
 use Rattle.qp.specs.declared.Segment.{Segment}
 use Rattle.qp.specs.Segments.{Gathered, nothing, openSegment, closed, begun, moved, counted, gatheredTo, Lies}
 use Rattle.qp.proofs.Gathers.{closed-none, closed-some}
@@ -105,11 +105,6 @@ placed-next n b q count g few inside p =
       each = closed-lie n b g (omega arith) p;
     })
 
--- a byte 1 that is a byte leads into its own block
-starts-inside : (b byte : ℕ) → byte ≤ 255 → framesStart b byte < 506 * (b + 1)
-unfolding framesStart
-starts-inside b byte small = omega arith
-
 -- after any number of blocks
 placed-upto : (f : List ℕ) (a n : ℕ) → Bytes f → (b : ℕ) → b ≤ n → Placed n b (gatheredTo f a n b)
 placed-upto f a n bytes =
@@ -128,12 +123,8 @@ ResetBy segments = (none : Segment) (i : ℕ) → i < length segments → getD s
 
 reset-more : (segments : List Segment) (segment : Segment) → segment .reset ≡ min 1 (length segments) → ResetBy segments
     → ResetBy (segments ++ (segment ∷ []))
-reset-more segments segment is so-far none i h =
-    by-order i (length segments)
-    (λ l. ap (λ (s : Segment). s .reset) (List·getD-append segments (segment ∷ []) none i l) ∙ so-far none i l)
-    (λ l.
-    let last : i ≡ length segments = omega (arith, length-append segments (segment ∷ [])) in
-    rw last (ap (λ (s : Segment). s .reset) (getD-append-seam segments segment [] none) ∙ is))
+reset-more segments segment is so-far none =
+    place-more (λ i s. s .reset ≡ min 1 i) segments segment none (so-far none) is
 
 closed-reset : (long : ℕ) (g : Gathered) → ResetBy (g .kept) → ResetBy (closed long g)
 closed-reset long g so-far =

@@ -1,5 +1,4 @@
 -- The laws and theorems that belong to no one function. They rest on the definitions in specs/.
-pub mod Entry
 pub mod Gathers
 pub mod Blockwise
 pub mod Kept

@@ -13,8 +13,8 @@ use Rattle.tables.specs.Entries.{fronted}
 use Rattle.tables.proofs.Cases.{by-order}
 use Rattle.tables.proofs.Entries.{in-turn-long, fronts-all, fronts-nothing}
 use Rattle.refusals.specs.Numbers.{numbered}
-use Rattle.refusals.specs.Said.{Said, answers, refuses, demand}
-use Rattle.refusals.proofs.Said.{passed, went-on, only-one}
+use Rattle.refusals.specs.Said.{Said, answers, refuses}
+use Rattle.refusals.proofs.Said.{passed, went-on, only-one, readFrom, asked-of}
 use Rattle.detect.specs.declared.Recording.{Recording}
 use Rattle.detect.specs.declared.Kind.the-variants.{Qp}
 use Rattle.detect.specs.Admissions.{announcedBy, ds2Admission}
@@ -77,12 +77,7 @@ module _ (f : List ℕ) (table : List ℕ) where
   taken rec table′ answer e d = rw (← e) d
 
 -- an answer is read back from what it says
-demuxed-read : Said Totals → Demuxed
-demuxed-read (answers totals) = Segments totals
-demuxed-read (refuses number beside) = Refused (numbered number beside)
-
-demuxed-back : (x : Demuxed) → demuxed-read (demuxedSays x) ≡ x
-unfolding demuxed-read
+demuxed-back : (x : Demuxed) → readFrom Segments Refused (demuxedSays x) ≡ x
 demuxed-back (Segments totals) = refl
 demuxed-back (Refused why) = refl
 
@@ -93,7 +88,7 @@ Seen = Demuxed × List ℕ
 pub only-outcome : {reading : Said Reading} {table one′ other′ : List ℕ} {one other : Demuxed} → Demuxes reading table one′ one
     → Demuxes reading table other′ other → _≡_ {A = Seen} (one, one′) (other, other′)
 only-outcome {reading} {table} {one′} {other′} {one} {other} d e =
-    let answer : one ≡ other = only-one demuxedSays demuxed-read demuxed-back one other _ (d .answer-is) (e .answer-is) in
+    let answer : one ≡ other = only-one demuxedSays (readFrom Segments Refused) demuxed-back one other _ (d .answer-is) (e .answer-is) in
     cc (answer, d .table-is, e .table-is)
 
 -- what an accepted call has read
@@ -104,10 +99,6 @@ pub accepted-read : (reading : Said Reading) (table table′ : List ℕ) (answer
 unfolding inRoom
 accepted-read reading table table′ answer d totals e =
     let w = went-on (inTable reading table) (λ r. answers (totalsOf r)) (sym (d .answer-is) ∙ e) in
-    let v = went-on reading
-    (λ r. demand (leb (length (r .segments)) (length table / 4)) 9 (length (r .segments)) (answers r)) (w .1) in
-    let test = passed (leb (length (v .0 .segments)) (length table / 4)) 9 (length (v .0 .segments)) (answers (v .0)) (v .2) in
-    let same : v .0 ≡ w .0 = cc in
+    let v = asked-of reading (λ r. leb (length (r .segments)) (length table / 4)) 9 (λ r. length (r .segments)) (w .0) (w .1) in
     let many : totalsOf (w .0) ≡ totals = cc in
-    let fits : length (v .0 .segments) ≤ length table / 4 = leb-true _ _ (test .0) in
-    (w .0, rw (← same) (v .1), many, rw (← same) fits, w .1)
+    (w .0, v .0, many, leb-true (length (w .0 .segments)) (length table / 4) (v .1), w .1)

@@ -1,18 +1,19 @@
 -- What holds of `demux_ds2_qp` and of its segments and frames for every file and all lent memory, beyond the contract or drawn from it.
 -- Each statement stands under a sentence that says it; the laws that carry them are in the files beside this one. Assumes nothing.
-use Prim.Native.Nat.{ℕ, _+_, _*_, _≤_, _<_, min}
+use Prim.Native.Nat.{ℕ, _+_, _*_, _/_, _%_, _≤_, _<_, min}
 use mathlib.Core.Path.{_≡_, refl, sym, ap, _∙_, subst}
 use mathlib.Core.List.{List}
+use mathlib.Core.Bool.{cond}
 use native.Mathlib.Omega.{arith}
 use borrow.Author.Tests.{le-leb, lt-leb}
 use denote.Ref.{now}
 use lib.ListN.{length, getD, drop, length-take, length-drop}
+use lib.Dec.{eqb}
 use Rattle.tables.specs.Settled.{SettledAs}
-use Rattle.tables.specs.Table.{Each}
+use Rattle.tables.specs.Table.{sumOf, Each}
 use Rattle.tables.specs.Entries.{fronted}
-use Rattle.tables.proofs.Table.{each-at, sum-both}
-use Rattle.tables.proofs.Lent.{over-in, over-past, over-long}
-use Rattle.tables.proofs.Entries.{in-turn-long, in-turn-at, in-turn-same, in-turn-many}
+use Rattle.tables.proofs.Table.{each-at, sum-both, sum-same}
+use Rattle.tables.proofs.Entries.{entries-stand, in-turn-same, in-turn-many}
 use Rattle.tables.proofs.Tests.{told}
 use Rattle.blocks.specs.Places.{Whole}
 use Rattle.blocks.specs.Headers.{Bytes}
@@ -24,9 +25,9 @@ use Rattle.detect.specs.declared.Recording.{Recording}
 use Rattle.detect.specs.declared.Kind.the-variants.{Qp}
 use Rattle.detect.specs.Admissions.{announcedBy, ds2Admission}
 use Rattle.detect.proofs.Admissions.{ds2-admitted}
-use Rattle.frames.specs.Frames.{handedOut, missingOf}
+use Rattle.frames.specs.Frames.{handedOut, shortAmong, missingOf}
 use Rattle.frames.specs.Cut.{cut, fetchedFrames}
-use Rattle.frames.proofs.Frames.{handed-and-missing}
+use Rattle.frames.proofs.Frames.{handed-and-missing, handed-is, short-is}
 use Rattle.frames.proofs.Cut.{cut-many}
 use Rattle.frames.proofs.Theorems.{frames-are-cut}
 use Rattle.qp.specs.declared.Segment.{Segment}
@@ -34,7 +35,7 @@ use Rattle.qp.specs.declared.Totals.{Totals}
 use Rattle.qp.specs.declared.Demuxed.{Demuxed}
 use Rattle.qp.specs.Segments.{Reading, readingOf, segmentsFrom, qpReading, Lies}
 use Rattle.qp.specs.Outcome.{entryOf, words, inRoom, inTable, totalsOf, answered, tableAfter, demuxedSays, Demuxes}
-use Rattle.qp.specs.Handed.{bytesOf, framesOf, fetchedOf, announcedOf, handedOutOf, missingFrom}
+use Rattle.qp.specs.Handed.{bytesOf, framesOf, fetchedOf, announcedOf, handedOutOf, shortOf, missingFrom}
 use Rattle.qp.proofs.Kept.{totals-add-up, all-lie, all-reset}
 use Rattle.qp.proofs.Outcome.{accepted-read, Seen, only-outcome}
 use Rattle.qp.proofs.demux_ds2_qp.Kinds as qp
@@ -59,20 +60,11 @@ module _ (reading : Said Reading) (table table′ : List ℕ) (answer : Demuxed)
 
 -- Where they stand: segment i has the four words from 4 i on, its start, its length, its frame total and its reset; every other word, and
 -- the length, is as it was.
-pub entries-stand : (segments : List Segment) (table : List ℕ) (none : Segment) → 4 * length segments ≤ length table
+pub segments-stand : (segments : List Segment) (table : List ℕ) (none : Segment) → 4 * length segments ≤ length table
     → ((i k : ℕ) → i < length segments → k < 4 → getD (fronted (words segments) table) (4 * i + k) 0 ≡ getD (entryOf (getD segments i none)) k 0)
-    × ((j : ℕ) → 4 * length segments ≤ j → j < length table → getD (fronted (words segments) table) j 0 ≡ getD table j 0)
+    × ((j : ℕ) → 4 * length segments ≤ j → getD (fronted (words segments) table) j 0 ≡ getD table j 0)
     × (length (fronted (words segments) table) ≡ length table)
-entries-stand segments table none room = (
-  (λ i k h l.
-      over-in (length (words segments)) (λ j. getD (words segments) j 0) table (4 * i + k) (omega (arith, long)) (omega arith)
-      ∙ in-turn-at entryOf 4 (λ s. refl) segments none i k h l),
-  (λ j past h. over-past (length (words segments)) (λ j. getD (words segments) j 0) table j (omega (arith, long)) h),
-  over-long (length (words segments)) (λ j. getD (words segments) j 0) table,
-)
-  where
-    long : length (words segments) ≡ 4 * length segments
-    long = in-turn-long entryOf 4 (λ s. refl) segments
+segments-stand segments table none room = entries-stand entryOf 4 (λ s. refl) segments none table room
 
 -- What is taken is handed out exactly if the table has room for all its segments, and is otherwise refused by 9 with the segments needed.
 pub room-decides : (r : Reading) (room : ℕ) → (length (r .segments) ≤ room → answered (inRoom (answers r) room) ≡ answers (totalsOf r))
@@ -160,6 +152,16 @@ module _ (f : List ℕ) (r : Reading) (read : qpReading f ≡ answers r) where
           sum-both (λ s. handedOut (s .long) (s .frames)) (λ s. missingOf (s .long) (s .frames)) (λ s. s .frames) (λ s. handed-and-missing (s .long) (s .frames)) (r .segments)
               ∙ t .2
               ∙ same-announced,
+        )
+
+    -- How many that is, by the segments' lengths: for each its length by 56, rounded up; and one is short for each whose length 56 does not
+    -- divide.
+    pub counted-by-length : (handedOutOf (r .segments) ≡ sumOf (λ s. (s .long + 55) / 56) (r .segments))
+        × (shortOf (r .segments) ≡ sumOf (λ s. cond (eqb (s .long % 56) 0) 0 1) (r .segments))
+    counted-by-length =
+        let w = lies in (
+          sum-same (Lies (506 * w .0 .blocks)) (λ s. handedOut (s .long) (s .frames)) (λ s. (s .long + 55) / 56) (λ s l. handed-is (s .long) (s .frames) (l .announces)) (r .segments) (w .3),
+          sum-same (Lies (506 * w .0 .blocks)) (λ s. shortAmong (s .long) (s .frames)) (λ s. cond (eqb (s .long % 56) 0) 0 1) (λ s l. short-is (s .long) (s .frames) (l .announces)) (r .segments) (w .3),
         )
 
 -- Two outcomes of `demux_ds2_qp` that its contract allows for the same arguments are equal: the answer and the table. The contract is the

@@ -13,7 +13,10 @@ use Rattle.qp.specs.declared.Demuxed.{Demuxed}
 use Rattle.qp.specs.declared.Demuxed.the-variants.{Segments, Refused}
 use Rattle.qp.specs.Segments.{Reading}
 
--- a segment's entry: four words
+-- a segment's entry: so many words
+abbrev pub width : ℕ
+width = 4
+
 abbrev pub entryOf : Segment → List ℕ
 entryOf segment = segment .start .0 ∷ segment .long ∷ segment .frames ∷ segment .reset ∷ []
 
@@ -21,13 +24,13 @@ entryOf segment = segment .start .0 ∷ segment .long ∷ segment .frames ∷ se
 abbrev pub words : List Segment → List ℕ
 words segments = inTurn entryOf segments
 
--- the reading, if there is room for all its segments: that is the table's length by 4
+-- the reading, if there is room for all its segments: that is the table's length by the width
 unfoldable pub inRoom : Said Reading → ℕ → Said Reading
 inRoom said room =
     onward said (λ r. demand (leb (length (r .segments)) room) 9 (length (r .segments)) (answers r))
 
 abbrev pub inTable : Said Reading → List ℕ → Said Reading
-inTable said table = inRoom said (length table / 4)
+inTable said table = inRoom said (length table / width)
 
 -- the answer is how many segments there are, and how many frames are announced
 abbrev pub totalsOf : Reading → Totals

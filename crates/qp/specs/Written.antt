@@ -8,11 +8,11 @@ use Rattle.tables.specs.Entries.{Fronts}
 use Rattle.qp.specs.declared.Segment.{Segment}
 use Rattle.qp.specs.declared.Gathering.{Gathering}
 use Rattle.qp.specs.Segments.{Gathered, closed, moved}
-use Rattle.qp.specs.Outcome.{words}
+use Rattle.qp.specs.Outcome.{width, words}
 
 -- the code counts the segments that the definition lists
-abbrev pub standing : Gathered → Gathering
-standing g =
+abbrev pub numbersOf : Gathered → Gathering
+numbersOf g =
     record {
       start = record { 0 = g .start };
       place = record { 0 = g .place };
@@ -30,7 +30,7 @@ pub record Near (long frames kept : ℕ) (gathering : Gathering) : Type 0 where
 
 -- the table holds the entries of these segments over some d, as far as `most`
 abbrev pub Holds : ℕ → List Segment → List ℕ → List ℕ → Type 0
-Holds most segments d table = Fronts d (4 * most) (words segments) table
+Holds most segments d table = Fronts d (width * most) (words segments) table
 
 -- the open segment is closed: how many are kept then, and what is left in a table that held those before
 pub record Closes (long most : ℕ) (g : Gathered) (table table′ : List ℕ) (kept : ℕ) : Type 0 where
@@ -39,5 +39,5 @@ pub record Closes (long most : ℕ) (g : Gathered) (table table′ : List ℕ) (
 
 -- a block arrives that starts at q: the same
 pub record Moves (long q most : ℕ) (g : Gathered) (table table′ : List ℕ) (gathering : Gathering) : Type 0 where
-  pub gathering-is : gathering ≡ standing (moved long q g)
+  pub gathering-is : gathering ≡ numbersOf (moved long q g)
   pub written : (d : List ℕ) → Holds most (g .kept) d table → Holds most (moved long q g .kept) d table′

@@ -15,11 +15,11 @@ ghost use lib.ListN.{length};
 ghost use lib.Dec.{ltb};
 ghost use Rattle.tables.specs.Entries.{Puts};
 ghost use Rattle.blocks.specs.Headers.{Bytes};
-ghost use Rattle.detect.proofs.Admissions.{Sound};
 ghost use Rattle.refusals.specs.Said.{answers};
+ghost use Rattle.detect.specs.Admissions.{Sound};
 ghost use Rattle.qp.specs.Segments.{Gathered, counted, segmentsFrom, readingOf, qpReading};
-ghost use Rattle.qp.specs.Outcome.{entryOf, Demuxes};
-ghost use Rattle.qp.specs.Written.{standing, Near, Holds, Closes, Moves};
+ghost use Rattle.qp.specs.Outcome.{width, entryOf, Demuxes};
+ghost use Rattle.qp.specs.Written.{numbersOf, Near, Holds, Closes, Moves};
 
 // The words of a segment's entry.
 const ENTRY: usize = 4;
@@ -32,12 +32,12 @@ pub struct Segment {
     pub reset: usize,
 }
 
-// The open segment: where it starts, the read place, its frame total; and how many segments were kept before it.
-pub struct Gathering {
-    pub start: StreamPlace,
-    pub place: StreamPlace,
-    pub frames: usize,
-    pub kept: usize,
+// The open segment, in numbers: where it starts, the read place, its frame total; and how many segments were kept before it.
+struct Gathering {
+    start: StreamPlace,
+    place: StreamPlace,
+    frames: usize,
+    kept: usize,
 }
 
 // How many segments a file has, and how many frames it announces.
@@ -55,7 +55,7 @@ pub enum Demuxed {
 // Puts a segment's entry under a number, if that is to be written.
 fn put(segment: Segment, number: usize, most: usize, table: &mut [u32])
     requires fits { ⌜ (segment .start .0 < 2 ^ 32) × (segment .long < 2 ^ 32) × (segment .frames < 2 ^ 32) × (segment .reset < 2 ^ 32) ⌝ }
-    requires room { ⌜ 4 * most ≤ length (now table) ⌝ }
+    requires room { ⌜ width * most ≤ length (now table) ⌝ }
     ensures { λ _. ⌜ Puts (now (table .entry)) number most (entryOf segment) (now (table .exit)) ⌝ }
 {
     if most <= number {
@@ -71,8 +71,8 @@ fn put(segment: Segment, number: usize, most: usize, table: &mut [u32])
 // Closes the open segment in a stream of so many bytes, and gives back how many are kept then.
 fn close(gathering: Gathering, end: usize, most: usize, table: &mut [u32]) -> usize
     requires near { ⌜ Near end (2 ^ 31) (2 ^ 31) gathering × (end < 2 ^ 31) ⌝ }
-    requires room { ⌜ 4 * most ≤ length (now table) ⌝ }
-    ensures closes { λ r. ⌜ ((g : Gathered) → gathering ≡ standing g → Closes end most g (now (table .entry)) (now (table .exit)) r) ⌝ }
+    requires room { ⌜ width * most ≤ length (now table) ⌝ }
+    ensures closes { λ r. ⌜ ((g : Gathered) → gathering ≡ numbersOf g → Closes end most g (now (table .entry)) (now (table .exit)) r) ⌝ }
     ensures near { λ r. ⌜ r ≤ gathering .kept + 1 ⌝ }
 {
     let number = gathering.kept;
@@ -100,8 +100,8 @@ fn arrive(
     table: &mut [u32],
 ) -> Gathering
     requires near { ⌜ Near end (2 ^ 31) (2 ^ 31) gathering × (end < 2 ^ 31) × (at .0 ≤ end) ⌝ }
-    requires room { ⌜ 4 * most ≤ length (now table) ⌝ }
-    ensures moves { λ r. ⌜ ((g : Gathered) → gathering ≡ standing g → Moves end (at .0) most g (now (table .entry)) (now (table .exit)) r) ⌝ }
+    requires room { ⌜ width * most ≤ length (now table) ⌝ }
+    ensures moves { λ r. ⌜ ((g : Gathered) → gathering ≡ numbersOf g → Moves end (at .0) most g (now (table .entry)) (now (table .exit)) r) ⌝ }
     ensures near { λ r. ⌜ ((frames kept : ℕ) → Near end frames kept gathering → Near end frames (kept + 1) r) ⌝ }
 {
     if at.0 == gathering.place.0 {
@@ -119,7 +119,7 @@ fn arrive(
 // A block's frames follow at the read place.
 fn add(gathering: Gathering, count: usize) -> Gathering
     requires { ⌜ (gathering .place .0 + 56 * count < 2 ^ 64) × (gathering .frames + count < 2 ^ 64) ⌝ }
-    ensures adds { λ r. ⌜ ((g : Gathered) → gathering ≡ standing g → r ≡ standing (counted count g)) ⌝ }
+    ensures adds { λ r. ⌜ ((g : Gathered) → gathering ≡ numbersOf g → r ≡ numbersOf (counted count g)) ⌝ }
     ensures near { λ r. ⌜ ((long frames kept : ℕ) → Near long frames kept gathering → Near long (frames + count) kept r) ⌝ }
 {
     let start = gathering.start;
@@ -135,7 +135,7 @@ fn add(gathering: Gathering, count: usize) -> Gathering
 // Walks over all blocks, writes as many entries as it is told, and gives back how many segments there are.
 fn write_segments(file: &[u8], recording: Recording, most: usize, table: &mut [u32]) -> usize
     requires sound { ⌜ Sound (now file) recording ⌝ }
-    requires room { ⌜ 4 * most ≤ length (now table) ⌝ }
+    requires room { ⌜ width * most ≤ length (now table) ⌝ }
     ensures many { λ r. ⌜ r ≡ length (segmentsFrom (now (file .entry)) recording) ⌝ }
     ensures few { λ r. ⌜ r ≤ recording .blocks + 1 ⌝ }
     ensures written { λ _. ⌜ Holds most (segmentsFrom (now (file .entry)) recording) (now (table .entry)) (now (table .exit)) ⌝ }
@@ -170,7 +170,7 @@ fn at_once(blocks: usize, room: usize) -> usize
 // Writes the entries that are needed, if not all of them were written at once.
 fn write_needed(file: &[u8], recording: Recording, written: usize, needed: usize, table: &mut [u32])
     requires sound { ⌜ Sound (now file) recording ⌝ }
-    requires room { ⌜ 4 * needed ≤ length (now table) ⌝ }
+    requires room { ⌜ width * needed ≤ length (now table) ⌝ }
     ensures none { λ _. ⌜ (needed ≤ written → now (table .exit) ≡ now (table .entry)) ⌝ }
     ensures all { λ _. ⌜ (written < needed → Holds needed (segmentsFrom (now (file .entry)) recording) (now (table .entry)) (now (table .exit))) ⌝ }
 {

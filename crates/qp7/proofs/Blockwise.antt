@@ -18,7 +18,7 @@ use Rattle.qp7.specs.declared.Walked.{Walked}
 use Rattle.qp7.specs.declared.Walked.the-variants.{At}
 use Rattle.qp7.specs.Walk.{Gathered, raised, closing, reads, withBlock}
 use Rattle.qp7.specs.Outcome.{entryOf}
-use Rattle.qp7.specs.Written.{standing, standsAt, Near, RecordsHold, SegmentsHold, ReadsOn, Closes, GoesOn}
+use Rattle.qp7.specs.Written.{numbersOf, numbersAt, Near, RecordsHold, SegmentsHold, ReadsOn, Closes, GoesOn}
 use Rattle.qp7.proofs.Standing.{stands-by}
 use Rattle.qp7.proofs.Closing.{closing-records}
 use Rattle.qp7.proofs.Reading.{same-segments}
@@ -29,7 +29,7 @@ Raised walk q r =
     (r .place .0 ≡ max (walk .place .0) q) × (r .records ≡ walk .records) × (r .segments ≡ walk .segments) × (r .first ≡ walk .first)
 
 -- where such a walk stands
-pub raised-stands : (walk : Walk) (q : ℕ) (r : Walk) (g : Gathered) → walk ≡ standing g → Raised walk q r → r ≡ standing (raised q g)
+pub raised-stands : (walk : Walk) (q : ℕ) (r : Walk) (g : Gathered) → walk ≡ numbersOf g → Raised walk q r → r ≡ numbersOf (raised q g)
 raised-stands walk q r g e up =
     stands-by r (raised q g) (up .0 ∙ ap (λ (w : Walk). max (w .place .0) q) e) (up .1 ∙ ap (λ (w : Walk). w .records) e)
     (up .2 ∙ ap (λ (w : Walk). w .segments) e) (up .3 ∙ ap (λ (w : Walk). w .first) e)
@@ -52,7 +52,7 @@ module _ (f : List ℕ) (a n b : ℕ) (g : Gathered) where
       → GoesOn most g (withBlock f a n b g) records records segments segments′ (At r)
   silent-goes-on most closed r records segments segments′ count is none c up =
       record {
-        answer-is = ap answers (raised-stands closed (506 * (b + 1)) r (closing g) (c .walk-is) up) ∙ sym (ap standsAt to);
+        answer-is = ap answers (raised-stands closed (506 * (b + 1)) r (closing g) (c .walk-is) up) ∙ sym (ap numbersAt to);
         records-written = λ d g′ e w.
             for-the-answer (λ (x : Gathered). RecordsHold (most .records) x d records) (sym to ∙ e) (kept d w);
         segments-written = λ d g′ e w.
@@ -73,7 +73,7 @@ module _ (f : List ℕ) (a n b : ℕ) (g : Gathered) where
       → GoesOn most g (withBlock f a n b g) records records′ segments segments r
   announcing-goes-on most records records′ segments count q r is some start on =
       record {
-        answer-is = on .answer-is ∙ sym (ap standsAt to);
+        answer-is = on .answer-is ∙ sym (ap numbersAt to);
         records-written = λ d g′ e w. on .written d g′ (sym to ∙ e) w;
         segments-written = λ d g′ e w.
             subst (λ (x : List Segment). Fronts d (3 * most .segments) (inTurn entryOf x) segments)

@@ -12,7 +12,7 @@ use Rattle.tables.proofs.Entries.{in-turn-long, in-turn-more, fronts-more}
 use Rattle.qp7.specs.declared.Walk.{Walk}
 use Rattle.qp7.specs.Walk.{Gathered, openSegment, closing}
 use Rattle.qp7.specs.Outcome.{entryOf}
-use Rattle.qp7.specs.Written.{standing, SegmentsHold, Closes}
+use Rattle.qp7.specs.Written.{numbersOf, SegmentsHold, Closes}
 
 -- what was gathered, with its open segment closed
 abbrev pub closedAt : Gathered → Gathered
@@ -43,11 +43,11 @@ closing-place g =
 
 -- an empty segment is not closed
 pub closes-none : (most : ℕ) (walk : Walk) (segments : List ℕ) → walk .records ≤ walk .first
-    → (g : Gathered) → walk ≡ standing g → Closes most g segments segments walk
+    → (g : Gathered) → walk ≡ numbersOf g → Closes most g segments segments walk
 closes-none most walk segments h g e =
     let same : closing g ≡ g = closing-none g (omega (arith, h, ap (λ (w : Walk). w .records) e, ap (λ (w : Walk). w .first) e)) in
     record {
-      walk-is = e ∙ ap standing (sym same);
+      walk-is = e ∙ ap numbersOf (sym same);
       written = λ d w. subst (λ (x : Gathered). SegmentsHold most x d segments) (sym same) w;
       untouched = λ none. refl;
     }
@@ -62,11 +62,11 @@ walkClosed walk = record { place = walk .place; records = walk .records; segment
 
 -- a segment that is not empty is closed where the walk stands
 closes-one-at : (most : ℕ) (g : Gathered) (segments segments′ : List ℕ) (reset : ℕ) → g .first < length (g .records)
-    → reset ≡ min 1 (length (g .closed)) → Puts segments (length (g .closed)) most (entryFrom (standing g) reset) segments′
-    → Closes most g segments segments′ (walkClosed (standing g))
+    → reset ≡ min 1 (length (g .closed)) → Puts segments (length (g .closed)) most (entryFrom (numbersOf g) reset) segments′
+    → Closes most g segments segments′ (walkClosed (numbersOf g))
 closes-one-at most g segments segments′ reset h is p =
     record {
-      walk-is = walk-is ∙ ap standing (sym closed);
+      walk-is = walk-is ∙ ap numbersOf (sym closed);
       written = written;
       untouched = λ none. p .left-out (omega (arith, none));
     }
@@ -77,14 +77,14 @@ closes-one-at most g segments segments′ reset h is p =
     many : length (g .closed) + 1 ≡ length (g .closed ++ (openSegment g ∷ []))
     many = sym (length-append (g .closed) (openSegment g ∷ []))
 
-    walk-is : walkClosed (standing g) ≡ standing (closedAt g)
+    walk-is : walkClosed (numbersOf g) ≡ numbersOf (closedAt g)
     walk-is =
         ap
         (λ (n : ℕ). record { place = record { 0 = g .place }; records = length (g .records); segments = n; first = length (g .records) })
         many
 
     entry : Puts segments (length (g .closed)) most (entryOf (openSegment g)) segments′
-    entry = subst (λ (r : ℕ). Puts segments (length (g .closed)) most (entryFrom (standing g) r) segments′) is p
+    entry = subst (λ (r : ℕ). Puts segments (length (g .closed)) most (entryFrom (numbersOf g) r) segments′) is p
 
     written : (d : List ℕ) → SegmentsHold most g d segments → SegmentsHold most (closing g) d segments′
     written d w =
@@ -96,7 +96,7 @@ closes-one-at most g segments segments′ reset h is p =
 -- the same of any walk that stands there
 pub closes-one : (most : ℕ) (walk : Walk) (segments segments′ : List ℕ) (reset : ℕ) → walk .first < walk .records
     → reset ≡ min 1 (walk .segments) → Puts segments (walk .segments) most (entryFrom walk reset) segments′
-    → (g : Gathered) → walk ≡ standing g → Closes most g segments segments′ (walkClosed walk)
+    → (g : Gathered) → walk ≡ numbersOf g → Closes most g segments segments′ (walkClosed walk)
 closes-one most walk segments segments′ reset h is p g e =
     subst
     (λ (w : Walk).

@@ -16,7 +16,7 @@ use Rattle.qp7.specs.declared.Walk.{Walk}
 use Rattle.qp7.specs.declared.Walked.{Walked}
 use Rattle.qp7.specs.declared.Walked.the-variants.{At, Refused}
 use Rattle.qp7.specs.Walk.{Gathered, nothing, closing, withBlock, gatheredTo, gatheredFrom}
-use Rattle.qp7.specs.Written.{standing, standsAt, walkedSays, Near, RecordsHold, SegmentsHold, Closes, GoesOn}
+use Rattle.qp7.specs.Written.{numbersOf, numbersAt, walkedSays, Near, RecordsHold, SegmentsHold, Closes, GoesOn}
 use Rattle.qp7.proofs.Closing.{closing-records}
 
 -- one block more
@@ -44,20 +44,20 @@ goneOn f rec b g = withBlock f (rec .start .0) (rec .blocks) b g
 pub record Gathers (f : List ℕ) (rec : Recording) (most : Totals) (records records′ segments segments′ : List ℕ) (walk : Walk) (b : ℕ) : Type 0 where
   pub here : Gathered
   pub so-far : upTo f rec b ≡ answers here
-  pub stands : walk ≡ standing here
+  pub stands : walk ≡ numbersOf here
   pub near : Near (rec .blocks) b walk
   pub records-held : (d : List ℕ) → RecordsHold (most .records) nothing d records → RecordsHold (most .records) here d records′
   pub segments-held : (d : List ℕ) → SegmentsHold (most .segments) nothing d segments → SegmentsHold (most .segments) here d segments′
   pub untouched : most .records ≡ 0 → most .segments ≡ 0 → (records′ ≡ records) × (segments′ ≡ segments)
 
 -- where what is gathered stands
-pub stands-answered : (said : Said Gathered) (walk : Walk) → answers walk ≡ standsAt said
-    → (g : Gathered) × (said ≡ answers g) × (walk ≡ standing g)
+pub stands-answered : (said : Said Gathered) (walk : Walk) → answers walk ≡ numbersAt said
+    → (g : Gathered) × (said ≡ answers g) × (walk ≡ numbersOf g)
 stands-answered said walk e =
-    let w = went-on said (λ g. answers (standing g)) (sym e) in
-    (w .0, w .1, for-the-answer (λ (v : Walk). v ≡ standing (w .0)) (w .2) refl)
+    let w = went-on said (λ g. answers (numbersOf g)) (sym e) in
+    (w .0, w .1, for-the-answer (λ (v : Walk). v ≡ numbersOf (w .0)) (w .2) refl)
 
-pub stands-refused : (said : Said Gathered) {number beside : ℕ} → refuses number beside ≡ standsAt said → said ≡ refuses number beside
+pub stands-refused : (said : Said Gathered) {number beside : ℕ} → refuses number beside ≡ numbersAt said → said ≡ refuses number beside
 stands-refused (answers g) e = absurd (not-both e)
 stands-refused (refuses number beside) e = cc
 
@@ -69,7 +69,7 @@ gathered-from f rec = refl
 
 module _ (f : List ℕ) (rec : Recording) (most : Totals) (records segments : List ℕ) where
   -- before the first block
-  pub gathering-begins : Gathers f rec most records records segments segments (standing nothing) 0
+  pub gathering-begins : Gathers f rec most records records segments segments (numbersOf nothing) 0
   unfolding gatheredTo
   gathering-begins =
       record {
@@ -91,7 +91,7 @@ module _ (f : List ℕ) (rec : Recording) (most : Totals) (records segments : Li
         ∙ ap (λ (said : Said Gathered). onward said (goneOn f rec b)) (so .so-far)
 
     module _ (records″ segments″ : List ℕ) (came : Walked)
-        (on : (g : Gathered) → walk ≡ standing g → GoesOn most g (goneOn f rec b g) records′ records″ segments′ segments″ came) where
+        (on : (g : Gathered) → walk ≡ numbersOf g → GoesOn most g (goneOn f rec b g) records′ records″ segments′ segments″ came) where
       -- one block more
       pub gathering-goes-on : (next : Walk) → came ≡ At next → ((w : Walk) → walkedSays came ≡ answers w → Near (rec .blocks) (b + 1) w)
           → Gathers f rec most records records″ segments segments″ next (b + 1)
@@ -109,7 +109,7 @@ module _ (f : List ℕ) (rec : Recording) (most : Totals) (records segments : Li
           step : GoesOn most (so .here) (goneOn f rec b (so .here)) records′ records″ segments′ segments″ came
           step = on (so .here) (so .stands)
 
-          there : (g : Gathered) × (goneOn f rec b (so .here) ≡ answers g) × (next ≡ standing g)
+          there : (g : Gathered) × (goneOn f rec b (so .here) ≡ answers g) × (next ≡ numbersOf g)
           there = stands-answered (goneOn f rec b (so .here)) next (ap walkedSays (sym is) ∙ step .answer-is)
 
       -- a block that is refused
@@ -117,7 +117,7 @@ module _ (f : List ℕ) (rec : Recording) (most : Totals) (records segments : Li
           → GoesOn most nothing (gatheredFrom f rec) records records″ segments segments″ came
       gathering-stops why is h =
           record {
-            answer-is = ap walkedSays is ∙ sym (ap standsAt to);
+            answer-is = ap walkedSays is ∙ sym (ap numbersAt to);
             records-written = λ d g′ e w. absurd (not-both (sym to ∙ e));
             segments-written = λ d g′ e w. absurd (not-both (sym to ∙ e));
             untouched = λ p q. (step .untouched p q .0 ∙ so .untouched p q .0, step .untouched p q .1 ∙ so .untouched p q .1);
@@ -137,11 +137,11 @@ module _ (f : List ℕ) (rec : Recording) (most : Totals) (records segments : Li
 
     -- all blocks, and the last segment closed
     pub gathering-ends : (segments″ : List ℕ) (r : Walk) → rec .blocks ≡ b
-        → ((g : Gathered) → walk ≡ standing g → Closes (most .segments) g segments′ segments″ r)
+        → ((g : Gathered) → walk ≡ numbersOf g → Closes (most .segments) g segments′ segments″ r)
         → GoesOn most nothing (gatheredFrom f rec) records records′ segments segments″ (At r)
     gathering-ends segments″ r done on =
         record {
-          answer-is = ap answers (last .walk-is) ∙ sym (ap standsAt to);
+          answer-is = ap answers (last .walk-is) ∙ sym (ap numbersAt to);
           records-written = λ d g′ e w.
               for-the-answer (λ (x : Gathered). RecordsHold (most .records) x d records′) (sym to ∙ e)
               (subst (λ (words : List ℕ). Fronts d (1 * most .records) words records′) (sym (closing-records (so .here))) (so .records-held d w));

@@ -1,6 +1,5 @@
 -- The laws and theorems that belong to no one function. They rest on the definitions in specs/.
 pub mod Records
-pub mod Entered
 pub mod Standing
 pub mod Closing
 pub mod Reading

@@ -12,7 +12,7 @@ use Rattle.tables.proofs.Entries.{in-turn-long, fronts-none, fronts-begin, fron
 use Rattle.refusals.specs.declared.Refusal.{Refusal}
 use Rattle.refusals.specs.Numbers.{numbered}
 use Rattle.refusals.specs.Said.{Said, answers, refuses, refusal, demand}
-use Rattle.refusals.proofs.Said.{passed, went-on, only-one, for-the-answer}
+use Rattle.refusals.proofs.Said.{passed, went-on, only-one, for-the-answer, readFrom}
 use Rattle.detect.specs.declared.Recording.{Recording}
 use Rattle.detect.specs.declared.Kind.the-variants.{Qp7}
 use Rattle.detect.specs.Admissions.{ds2Admission}
@@ -24,7 +24,7 @@ use Rattle.qp7.specs.declared.Demuxed.{Demuxed}
 use Rattle.qp7.specs.declared.Demuxed.the-variants.{Tables, Refused}
 use Rattle.qp7.specs.Walk.{Gathered, nothing, gatheredFrom, qp7Reading}
 use Rattle.qp7.specs.Outcome.{entryOf, recordWords, segmentWords, inRoom, inTables, totalsOf, answered, recordsAfter, segmentsAfter, demuxedSays, Demuxes}
-use Rattle.qp7.specs.Written.{standsAt, walkedSays, GoesOn}
+use Rattle.qp7.specs.Written.{numbersAt, walkedSays, GoesOn}
 use Rattle.qp7.proofs.Gathering.{stands-answered, stands-refused}
 
 -- a segment has three words
@@ -72,7 +72,7 @@ outcome-by {reading} {records} {records′} {segments} {segments′} {answer} in
     }
 
 -- what a call does with a recording that was counted
-module _ (said : Said Gathered) (walk : Walk) (counted : answers walk ≡ standsAt said) (records segments : List ℕ) where
+module _ (said : Said Gathered) (walk : Walk) (counted : answers walk ≡ numbersAt said) (records segments : List ℕ) where
   -- too little room for its records
   pub few-records : length records < walk .records → Demuxes said records records segments segments (Refused (numbered 8 (walk .records)))
   few-records h =
@@ -170,13 +170,7 @@ accepted-read {reading} {records} {records′} {segments} {segments′} {answer}
     )
 
 -- an answer is read back from what it says
-demuxed-read : Said Totals → Demuxed
-demuxed-read (answers totals) = Tables totals
-demuxed-read (refuses number beside) = Refused (numbered number beside)
-
--- and is the same then
-demuxed-back : (x : Demuxed) → demuxed-read (demuxedSays x) ≡ x
-unfolding demuxed-read
+demuxed-back : (x : Demuxed) → readFrom Tables Refused (demuxedSays x) ≡ x
 demuxed-back (Tables totals) = refl
 demuxed-back (Refused why) = refl
 
@@ -189,5 +183,5 @@ pub only-outcome : {reading : Said Gathered} {records records₁ records₂ segm
     → Demuxes reading records records₁ segments segments₁ one → Demuxes reading records records₂ segments segments₂ other
     → _≡_ {A = Seen} (one, records₁, segments₁) (other, records₂, segments₂)
 only-outcome {reading} {records} {records₁} {records₂} {segments} {segments₁} {segments₂} {one} {other} d e =
-    let answer : one ≡ other = only-one demuxedSays demuxed-read demuxed-back one other _ (d .answer-is) (e .answer-is) in
+    let answer : one ≡ other = only-one demuxedSays (readFrom Tables Refused) demuxed-back one other _ (d .answer-is) (e .answer-is) in
     cc (answer, d .records-are, e .records-are, d .segments-are, e .segments-are)

@@ -15,7 +15,7 @@ use Rattle.qp7.specs.declared.Walk.{Walk}
 use Rattle.qp7.specs.declared.Walked.the-variants.{At, Refused}
 use Rattle.qp7.specs.Records.{recordAt}
 use Rattle.qp7.specs.Walk.{Gathered, noted, reads}
-use Rattle.qp7.specs.Written.{standing, standsAt, RecordsHold, ReadsOn}
+use Rattle.qp7.specs.Written.{numbersOf, numbersAt, RecordsHold, ReadsOn}
 use Rattle.qp7.proofs.Standing.{stands-by}
 
 -- k of `count` records were read from g on, the last up to `place`: what was gathered, and what is left of it to be read
@@ -35,7 +35,7 @@ unfolding reads
 reads-none s long n g none = rw none
 
 -- at least one is
-reads-more : (s : ℕ → ℕ) (long n m : ℕ) (g : Gathered) → n ≡ suc m
+pub reads-more : (s : ℕ → ℕ) (long n m : ℕ) (g : Gathered) → n ≡ suc m
     → reads s long n g ≡ onward (recordAt s long (g .place)) (λ size. reads s long m (noted size g))
 unfolding reads
 reads-more s long n m g some = rw some
@@ -109,7 +109,7 @@ module _ (s : ℕ → ℕ) (long count most : ℕ) (g : Gathered) (records : Lis
         → ReadsOn s long count most g records records′ (Refused (numbered number beside))
     reading-stops number beside h refused =
         record {
-          answer-is = sym (ap standsAt rest);
+          answer-is = sym (ap numbersAt rest);
           written = λ d g′ e w. absurd (not-both (sym rest ∙ e));
           untouched = came .untouched;
         }
@@ -122,7 +122,7 @@ module _ (s : ℕ → ℕ) (long count most : ℕ) (g : Gathered) (records : Lis
         → walk .segments ≡ length (g .closed) → walk .first ≡ g .first → ReadsOn s long count most g records records′ (At walk)
     reading-ends walk all place-is many segments first =
         record {
-          answer-is = ap answers stands ∙ sym (ap standsAt rest);
+          answer-is = ap answers stands ∙ sym (ap numbersAt rest);
           written = λ d g′ e w. for-the-answer (λ (x : Gathered). RecordsHold most x d records′) (sym rest ∙ e) (came .held d w);
           untouched = came .untouched;
         }
@@ -130,7 +130,7 @@ module _ (s : ℕ → ℕ) (long count most : ℕ) (g : Gathered) (records : Lis
         rest : reads s long count g ≡ answers (came .here)
         rest = came .left ∙ reads-none s long (count - k) (came .here) (omega (arith, all))
 
-        stands : walk ≡ standing (came .here)
+        stands : walk ≡ numbersOf (came .here)
         stands =
             stands-by walk (came .here) (place-is ∙ sym (came .place-is)) (omega (arith, many, all, came .many))
             (segments ∙ ap length (sym (came .closed-same))) (first ∙ sym (came .first-same))

@@ -10,10 +10,10 @@ use Rattle.tables.proofs.Cases.{by-order}
 use Rattle.blocks.specs.Headers.{flagOf}
 use Rattle.refusals.specs.declared.Refusal.{Refusal}
 use Rattle.refusals.specs.Said.{Said, answers, refuses, refusal}
-use Rattle.refusals.proofs.Said.{passed}
+use Rattle.refusals.proofs.Said.{passed, not-both}
 use Rattle.qp7.specs.declared.Record.{Record}
-use Rattle.qp7.specs.declared.Record.the-variants.{Refused}
-use Rattle.qp7.specs.Records.{recordSize, recordAt, recordSays, whyNot}
+use Rattle.qp7.specs.declared.Record.the-variants.{Is, Refused}
+use Rattle.qp7.specs.Records.{recordSize, recordAt, recordSays}
 
 -- bit 7 is on
 pub long-size : (second : ℕ) → 128 ≤ second → recordSize second ≡ 56
@@ -62,8 +62,13 @@ module _ (s : ℕ → ℕ) (long q : ℕ) where
       (is, omega (arith, is, inside))
 
 -- why a record cannot be read, as the code asks it
-pub why-is : {said : Said ℕ} (found : Record) (why asked : Refusal) → found ≡ Refused why → asked ≡ whyNot found → recordSays found ≡ said
-    → refusal asked ≡ said
-why-is {said} found why asked is ask says =
-    let same : asked ≡ why = ask ∙ ap whyNot is in
-    ap (λ (r : Refusal). refusal {A = ℕ} r) same ∙ ap recordSays (sym is) ∙ says
+pub why-is : {said : Said ℕ} (found : Record) (why asked : Refusal) → found ≡ Refused why → ((w : Refusal) → found ≡ Refused w → asked ≡ w)
+    → recordSays found ≡ said → refusal asked ≡ said
+why-is {said} found why asked is ask says = ap (λ (r : Refusal). refusal {A = ℕ} r) (ask why is) ∙ ap recordSays (sym is) ∙ says
+
+-- a record is refused for one reason, and one that is read for none
+pub same-why : (why other : Refusal) → _≡_ {A = Record} (Refused why) (Refused other) → why ≡ other
+same-why why other e = cc
+
+pub not-refused : (size : ℕ) (why : Refusal) → _≡_ {A = Record} (Is size) (Refused why) → ⊥
+not-refused size why e = not-both {a = size} (sym (ap recordSays e))

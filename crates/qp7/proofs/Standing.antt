@@ -5,7 +5,7 @@ use mathlib.Core.Path.{_≡_}
 use lib.ListN.{length}
 use Rattle.qp7.specs.declared.Walk.{Walk}
 use Rattle.qp7.specs.Walk.{Gathered}
-use Rattle.qp7.specs.Written.{standing}
+use Rattle.qp7.specs.Written.{numbersOf}
 
 -- two walks with the same numbers are the same
 made : {p p′ r r′ s s′ f f′ : ℕ} → p ≡ p′ → r ≡ r′ → s ≡ s′ → f ≡ f′
@@ -15,5 +15,5 @@ made p r s f = cc
 
 -- it has the read place, as many records and segments, and the same first record
 pub stands-by : (walk : Walk) (g : Gathered) → walk .place .0 ≡ g .place → walk .records ≡ length (g .records)
-    → walk .segments ≡ length (g .closed) → walk .first ≡ g .first → walk ≡ standing g
+    → walk .segments ≡ length (g .closed) → walk .first ≡ g .first → walk ≡ numbersOf g
 stands-by walk g place records segments first = made place records segments first

@@ -1,6 +1,6 @@
 -- What holds of `demux_ds2_qp7` for every file and all lent memory, beyond the contract or drawn from it. Each statement stands under a
 -- sentence that says it; the laws that carry them are in the files beside this one. Assumes nothing.
-use Prim.Native.Nat.{ℕ, _+_, _*_, _≤_, _<_}
+use Prim.Native.Nat.{ℕ, _+_, _*_, _≤_, _<_, min}
 use mathlib.Core.Path.{_≡_, refl, sym, ap, _∙_}
 use mathlib.Core.List.{List}
 use native.Mathlib.Omega.{arith}
@@ -61,12 +61,9 @@ module _ (f : List ℕ) (g : Gathered) (e : qp7Reading f ≡ answers g) where
   pub no-segment-is-empty : (i : ℕ) → i < length (g .closed) → 1 ≤ segmentAt (g .closed) i .records
   no-segment-is-empty i h = gathered-shared f g e .0 .each i h .some
 
-  -- Before the first segment the decoder is not reset, and before every other it is.
-  pub all-but-the-first-reset : (i : ℕ) → i < length (g .closed)
-      → (i ≡ 0 → segmentAt (g .closed) i .reset ≡ 0) × (0 < i → segmentAt (g .closed) i .reset ≡ 1)
-  all-but-the-first-reset i h =
-      let is = gathered-shared f g e .0 .each i h .resets in
-      ((λ first. omega (arith, is, first)), (λ later. omega (arith, is, later)))
+  -- Reset is 0 for the first segment and 1 for every other.
+  pub reset-but-first : (i : ℕ) → i < length (g .closed) → segmentAt (g .closed) i .reset ≡ min 1 i
+  reset-but-first i h = gathered-shared f g e .0 .each i h .resets
 
   module _ (rec : Recording) (taken : ds2Admission f Qp7 ≡ answers rec) where
     -- Every record, as long as the byte after its place says, ends in the payload stream, which has 506 bytes for each whole block.
@@ -127,7 +124,7 @@ module _ (reading : Said Gathered) (records records′ segments segments′ : Li
   tables-hold totals g e is =
       let w = accepted-writes totals e in
       for-the-answer (λ (x : Gathered). TablesHold x records records′ segments segments′) (sym (w .1) ∙ is)
-      (tables-by (w .0) records records′ segments segments′ (w .5) (w .6) (w .3) (w .4))
+      (tables-by (w .0) records records′ segments segments′ (w .5) (omega (arith, w .6, segment-words (w .0))) (w .3) (w .4))
 
 -- What was gathered is handed out exactly if there is room for all its records and for all its segments. Otherwise it is refused by 8
 -- with the records needed if those do not fit, and else by 9 with the segments needed.

@@ -13,7 +13,10 @@ use Rattle.qp7.specs.declared.Demuxed.{Demuxed}
 use Rattle.qp7.specs.declared.Demuxed.the-variants.{Tables, Refused}
 use Rattle.qp7.specs.Walk.{Gathered, placeAt, segmentAt}
 
--- a segment's entry: three words
+-- a segment's entry: so many words
+abbrev pub width : ℕ
+width = 3
+
 abbrev pub entryOf : Segment → List ℕ
 entryOf segment = segment .first ∷ segment .records ∷ segment .reset ∷ []
 
@@ -32,9 +35,9 @@ inRoom said forRecords forSegments =
     demand (leb (length (g .records)) forRecords) 8 (length (g .records))
     (demand (leb (length (g .closed)) forSegments) 9 (length (g .closed)) (answers g)))
 
--- room for records is their table's length, for segments the other's by 3
+-- room for records is their table's length, for segments the other's by the width
 abbrev pub inTables : Said Gathered → List ℕ → List ℕ → Said Gathered
-inTables said records segments = inRoom said (length records) (length segments / 3)
+inTables said records segments = inRoom said (length records) (length segments / width)
 
 -- the answer is how many records there are, and how many segments
 abbrev pub totalsOf : Gathered → Totals

@@ -5,8 +5,6 @@ use mathlib.Core.Bool.{cond}
 use lib.Dec.{leb}
 use Rattle.blocks.specs.Headers.{flagOf}
 use Rattle.refusals.specs.Said.{Said, answers, refusal, demand}
-use Rattle.refusals.specs.declared.Refusal.{Refusal}
-use Rattle.refusals.specs.Numbers.{numbered}
 use Rattle.qp7.specs.declared.Record.{Record}
 use Rattle.qp7.specs.declared.Record.the-variants.{Is, Refused}
 
@@ -25,8 +23,3 @@ recordAt s long q =
 abbrev pub recordSays : Record → Said ℕ
 recordSays (Is size) = answers size
 recordSays (Refused why) = refusal why
-
--- why a record cannot be read, and two zeros for one that can: 0 is no refusal's number
-abbrev pub whyNot : Record → Refusal
-whyNot (Is size) = numbered 0 0
-whyNot (Refused why) = why

@@ -52,8 +52,8 @@ unfoldable pub reads : (ℕ → ℕ) → ℕ → ℕ → Gathered → Said Gathe
 reads s long zero g = answers g
 reads s long (suc n) g = onward (recordAt s long (g .place)) (λ size. reads s long n (noted size g))
 
--- block b of n: if it announces nothing, it closes a segment and raises the read place to its own end; otherwise it raises the read
--- place to its start and reads the records that it announces
+-- block b of n: if it announces nothing, it closes a segment and raises the read place to at least its own end; otherwise it raises
+-- the read place to at least its start and reads the records that it announces
 unfoldable pub withBlock : List ℕ → ℕ → ℕ → ℕ → Gathered → Said Gathered
 withBlock f a n b g =
     cond (eqb (countOf f a b) 0) (answers (raised (506 * (b + 1)) (closing g)))
@@ -80,12 +80,13 @@ placeAt g i = getD (g .records) i 0
 abbrev pub sizeAt : (ℕ → ℕ) → Gathered → ℕ → ℕ
 sizeAt s g i = recordSize (s (placeAt g i + 1))
 
--- segment i, and how many records those before it have. Past the last there are zeros
+-- segment i; past the last there are zeros
 abbrev pub noSegment : Segment
 noSegment = record { first = 0; records = 0; reset = 0 }
 
 abbrev pub segmentAt : List Segment → ℕ → Segment
 segmentAt closed i = getD closed i noSegment
 
+-- how many records the first i segments have
 abbrev pub recordsBefore : List Segment → ℕ → ℕ
 recordsBefore closed i = sum (table i (λ j. segmentAt closed j .records))

@@ -11,11 +11,11 @@ use Rattle.qp7.specs.declared.Walk.{Walk}
 use Rattle.qp7.specs.declared.Walked.{Walked}
 use Rattle.qp7.specs.declared.Walked.the-variants.{At, Refused}
 use Rattle.qp7.specs.Walk.{Gathered, closing, reads}
-use Rattle.qp7.specs.Outcome.{recordWords, segmentWords}
+use Rattle.qp7.specs.Outcome.{width, recordWords, segmentWords}
 
 -- the code counts what the definition lists
-abbrev pub standing : Gathered → Walk
-standing g =
+abbrev pub numbersOf : Gathered → Walk
+numbersOf g =
     record {
       place = record { 0 = g .place };
       records = length (g .records);
@@ -23,8 +23,8 @@ standing g =
       first = g .first;
     }
 
-abbrev pub standsAt : Said Gathered → Said Walk
-standsAt said = onward said (λ g. answers (standing g))
+abbrev pub numbersAt : Said Gathered → Said Walk
+numbersAt said = onward said (λ g. answers (numbersOf g))
 
 -- the code's answer, read so
 abbrev pub walkedSays : Walked → Said Walk
@@ -42,23 +42,23 @@ abbrev pub RecordsHold : ℕ → Gathered → List ℕ → List ℕ → Type 0
 RecordsHold most g records records′ = Fronts records (1 * most) (recordWords g) records′
 
 abbrev pub SegmentsHold : ℕ → Gathered → List ℕ → List ℕ → Type 0
-SegmentsHold most g segments segments′ = Fronts segments (3 * most) (segmentWords g) segments′
+SegmentsHold most g segments segments′ = Fronts segments (width * most) (segmentWords g) segments′
 
 -- n records are read from where g stands: what is answered, and what is left in the record table if that held g's places over some d
 pub record ReadsOn (s : ℕ → ℕ) (long n most : ℕ) (g : Gathered) (records records′ : List ℕ) (r : Walked) : Type 0 where
-  pub answer-is : walkedSays r ≡ standsAt (reads s long n g)
+  pub answer-is : walkedSays r ≡ numbersAt (reads s long n g)
   pub written : (d : List ℕ) (g′ : Gathered) → reads s long n g ≡ answers g′ → RecordsHold most g d records → RecordsHold most g′ d records′
   pub untouched : most ≡ 0 → records′ ≡ records
 
 -- a segment is closed where g stands: the same for the segment table
 pub record Closes (most : ℕ) (g : Gathered) (segments segments′ : List ℕ) (r : Walk) : Type 0 where
-  pub walk-is : r ≡ standing (closing g)
+  pub walk-is : r ≡ numbersOf (closing g)
   pub written : (d : List ℕ) → SegmentsHold most g d segments → SegmentsHold most (closing g) d segments′
   pub untouched : most ≡ 0 → segments′ ≡ segments
 
 -- and for both tables, where the walk goes on from g to what `to` says
 pub record GoesOn (most : Totals) (g : Gathered) (to : Said Gathered) (records records′ segments segments′ : List ℕ) (r : Walked) : Type 0 where
-  pub answer-is : walkedSays r ≡ standsAt to
+  pub answer-is : walkedSays r ≡ numbersAt to
   pub records-written : (d : List ℕ) (g′ : Gathered) → to ≡ answers g′ → RecordsHold (most .records) g d records
       → RecordsHold (most .records) g′ d records′
   pub segments-written : (d : List ℕ) (g′ : Gathered) → to ≡ answers g′ → SegmentsHold (most .segments) g d segments

@@ -12,14 +12,12 @@ ghost use Prim.Native.Nat.{_+_, _*_, _<_, _≤_, _^_, max};
 ghost use mathlib.Core.List.{[], _∷_};
 ghost use lib.ListN.{length};
 ghost use Rattle.tables.specs.Entries.{Puts};
-ghost use Rattle.blocks.specs.Places.{streamAt};
 ghost use Rattle.refusals.specs.Said.{answers};
-ghost use Rattle.detect.specs.Admissions.{admissionSays, ds2Admission};
-ghost use Rattle.detect.proofs.Admissions.{Sound};
-ghost use Rattle.qp7.specs.Records.{recordSize, recordAt, recordSays, whyNot};
-ghost use Rattle.qp7.specs.Walk.{Gathered, nothing, withBlock, gatheredTo, gatheredFrom, qp7Reading};
-ghost use Rattle.qp7.specs.Outcome.{entryOf, Demuxes};
-ghost use Rattle.qp7.specs.Written.{standing, standsAt, walkedSays, Near, ReadsOn, Closes, GoesOn};
+ghost use Rattle.detect.specs.Admissions.{Sound, streamIn};
+ghost use Rattle.qp7.specs.Records.{recordSize, recordAt, recordSays};
+ghost use Rattle.qp7.specs.Walk.{Gathered, nothing, withBlock, gatheredFrom, qp7Reading};
+ghost use Rattle.qp7.specs.Outcome.{width, entryOf, Demuxes};
+ghost use Rattle.qp7.specs.Written.{numbersOf, numbersAt, walkedSays, Near, ReadsOn, Closes, GoesOn};
 
 // The size of a record whose second byte has bit 7 off, and on.
 const SHORT: usize = 12;
@@ -30,30 +28,31 @@ const LONG: usize = 56;
 const ENTRY: usize = 3;
 
 // A record's size, or why it cannot be read.
-pub enum Record {
+enum Record {
     Is(usize),
     Refused(Refusal),
 }
 
 // Where the walk stands: the read place, how many records were read and how many segments closed, and the number of the open segment's
 // first record.
-pub struct Walk {
-    pub place: StreamPlace,
-    pub records: usize,
-    pub segments: usize,
-    pub first: usize,
+struct Walk {
+    place: StreamPlace,
+    records: usize,
+    segments: usize,
+    first: usize,
 }
 
-pub enum Walked {
+// Where the walk stands after some records or blocks, or why it ended.
+enum Walked {
     At(Walk),
     Refused(Refusal),
 }
 
 // A segment: the number of its first record, how many it has, and 1 if the decoder is to be reset before it.
-pub struct Segment {
-    pub first: usize,
-    pub records: usize,
-    pub reset: usize,
+struct Segment {
+    first: usize,
+    records: usize,
+    reset: usize,
 }
 
 // How many records and segments: those of a file, or those to be written.
@@ -79,7 +78,7 @@ fn size_of(second: u8) -> usize
 fn record_at(file: &[u8], recording: Recording, at: StreamPlace) -> Record
     requires sound { ⌜ Sound (now file) recording ⌝ }
     requires near { ⌜ at .0 ≤ 506 * recording .blocks ⌝ }
-    ensures { λ r. ⌜ recordSays r ≡ recordAt (streamAt (now (file .entry)) (recording .start .0) (recording .blocks)) (506 * recording .blocks) (at .0) ⌝ }
+    ensures { λ r. ⌜ recordSays r ≡ recordAt (streamIn (now (file .entry)) recording) (506 * recording .blocks) (at .0) ⌝ }
 {
     let start = recording.start;
     let blocks = recording.blocks;
@@ -89,7 +88,7 @@ fn record_at(file: &[u8], recording: Recording, at: StreamPlace) -> Record
         return Record::Refused(Refusal::selector(at));
     }
     let next = place + 1;
-    let second = blocks::stream_byte(file, start, blocks, StreamPlace(next));
+    let second = blocks::stream_byte(file, start, StreamPlace(next));
     let size = size_of(second);
     if end < place + size {
         return Record::Refused(Refusal::record(at));
@@ -97,9 +96,9 @@ fn record_at(file: &[u8], recording: Recording, at: StreamPlace) -> Record
     Record::Is(size)
 }
 
-// Why a record cannot be read. Not asked of any other record; 0 is no refusal's number.
+// Why a record cannot be read. Of another record nothing is promised, nor is it asked; 0 is no refusal's number.
 fn why_not(found: Record) -> Refusal
-    ensures { λ r. ⌜ r ≡ whyNot found ⌝ }
+    ensures { λ r. ⌜ ((why : Refusal) → found ≡ Record.Refused why → r ≡ why) ⌝ }
 {
     match found {
         Record::Refused(why) => why,
@@ -133,7 +132,7 @@ fn read_records(
     requires sound { ⌜ Sound (now file) recording ⌝ }
     requires near { ⌜ (walk .place .0 ≤ 506 * recording .blocks) × (walk .records + count ≤ 2 ^ 32) ⌝ }
     requires room { ⌜ most ≤ length (now records) ⌝ }
-    ensures on { λ r. ⌜ ((g : Gathered) → walk ≡ standing g → ReadsOn (streamAt (now (file .entry)) (recording .start .0) (recording .blocks)) (506 * recording .blocks) count most g (now (records .entry)) (now (records .exit)) r) ⌝ }
+    ensures on { λ r. ⌜ ((g : Gathered) → walk ≡ numbersOf g → ReadsOn (streamIn (now (file .entry)) recording) (506 * recording .blocks) count most g (now (records .entry)) (now (records .exit)) r) ⌝ }
     ensures near { λ r. ⌜ ((w : Walk) → walkedSays r ≡ answers w → (w .place .0 ≤ 506 * recording .blocks) × (w .records ≡ walk .records + count) × (w .segments ≡ walk .segments)) ⌝ }
 {
     let base = walk.records;
@@ -159,7 +158,7 @@ fn read_records(
 
 // Puts a segment's entry under a number, if that is to be written.
 fn put(segment: Segment, number: usize, most: usize, segments: &mut [u32])
-    requires { ⌜ (segment .first < 2 ^ 32) × (segment .records < 2 ^ 32) × (segment .reset < 2 ^ 32) × (3 * most ≤ length (now segments)) ⌝ }
+    requires { ⌜ (segment .first < 2 ^ 32) × (segment .records < 2 ^ 32) × (segment .reset < 2 ^ 32) × (width * most ≤ length (now segments)) ⌝ }
     ensures { λ _. ⌜ Puts (now (segments .entry)) number most (entryOf segment) (now (segments .exit)) ⌝ }
 {
     if most <= number {
@@ -174,8 +173,8 @@ fn put(segment: Segment, number: usize, most: usize, segments: &mut [u32])
 // Closes the open segment, if it is not empty.
 fn close(walk: Walk, most: usize, segments: &mut [u32]) -> Walk
     requires near { ⌜ (walk .records < 2 ^ 32) × (walk .segments < 2 ^ 32) ⌝ }
-    requires room { ⌜ 3 * most ≤ length (now segments) ⌝ }
-    ensures closes { λ r. ⌜ ((g : Gathered) → walk ≡ standing g → Closes most g (now (segments .entry)) (now (segments .exit)) r) ⌝ }
+    requires room { ⌜ width * most ≤ length (now segments) ⌝ }
+    ensures closes { λ r. ⌜ ((g : Gathered) → walk ≡ numbersOf g → Closes most g (now (segments .entry)) (now (segments .exit)) r) ⌝ }
     ensures near { λ r. ⌜ (r .place .0 ≡ walk .place .0) × (r .records ≡ walk .records) × (r .segments ≤ walk .segments + 1) ⌝ }
 {
     let place = walk.place;
@@ -224,8 +223,8 @@ fn with_block(
 ) -> Walked
     requires sound { ⌜ Sound (now file) recording × (block < recording .blocks) ⌝ }
     requires near { ⌜ Near (recording .blocks) block walk ⌝ }
-    requires room { ⌜ (most .records ≤ length (now records)) × (3 * most .segments ≤ length (now segments)) ⌝ }
-    ensures on { λ r. ⌜ ((g : Gathered) → walk ≡ standing g → GoesOn most g (withBlock (now (file .entry)) (recording .start .0) (recording .blocks) block g) (now (records .entry)) (now (records .exit)) (now (segments .entry)) (now (segments .exit)) r) ⌝ }
+    requires room { ⌜ (most .records ≤ length (now records)) × (width * most .segments ≤ length (now segments)) ⌝ }
+    ensures on { λ r. ⌜ ((g : Gathered) → walk ≡ numbersOf g → GoesOn most g (withBlock (now (file .entry)) (recording .start .0) (recording .blocks) block g) (now (records .entry)) (now (records .exit)) (now (segments .entry)) (now (segments .exit)) r) ⌝ }
     ensures near { λ r. ⌜ ((w : Walk) → walkedSays r ≡ answers w → Near (recording .blocks) (block + 1) w) ⌝ }
 {
     let start = recording.start;
@@ -248,7 +247,7 @@ fn walk_blocks(
     segments: &mut [u32],
 ) -> Walked
     requires sound { ⌜ Sound (now file) recording ⌝ }
-    requires room { ⌜ (most .records ≤ length (now records)) × (3 * most .segments ≤ length (now segments)) ⌝ }
+    requires room { ⌜ (most .records ≤ length (now records)) × (width * most .segments ≤ length (now segments)) ⌝ }
     ensures { λ r. ⌜ GoesOn most nothing (gatheredFrom (now (file .entry)) recording) (now (records .entry)) (now (records .exit)) (now (segments .entry)) (now (segments .exit)) r ⌝ }
 {
     let blocks = recording.blocks;
@@ -279,7 +278,7 @@ fn hand_out(
     segments: &mut [u32],
 ) -> Demuxed
     requires sound { ⌜ Sound (now file) recording ⌝ }
-    requires counted { ⌜ answers walk ≡ standsAt (gatheredFrom (now file) recording) ⌝ }
+    requires counted { ⌜ answers walk ≡ numbersAt (gatheredFrom (now file) recording) ⌝ }
     ensures { λ r. ⌜ Demuxes (gatheredFrom (now (file .entry)) recording) (now (records .entry)) (now (records .exit)) (now (segments .entry)) (now (segments .exit)) r ⌝ }
 {
     let most = Totals {

@@ -4,6 +4,8 @@ use Prim.Native.Nat.{ℕ}
 use mathlib.Core.Path.{_≡_, refl, sym, ap, _∙_, subst}
 use mathlib.Core.Bool.{Bool, true, false}
 use native.Mathlib.Omega.{arith}
+use Rattle.refusals.specs.declared.Refusal.{Refusal}
+use Rattle.refusals.specs.Numbers.{numbered}
 use Rattle.refusals.specs.Said.{Said, demand, answers, refuses, onward}
 
 -- a call that refuses does not answer
@@ -30,6 +32,19 @@ by-said (refuses number beside) answered refused = refused number beside refl
 pub only-one : {E A : Type 0} (says : E → Said A) (read : Said A → E) → ((x : E) → read (says x) ≡ x)
     → (x y : E) (said : Said A) → says x ≡ said → says y ≡ said → x ≡ y
 only-one says read back x y said p q = sym (back x) ∙ ap read (p ∙ sym q) ∙ back y
+
+-- what is answered after a test of the answer itself was answered before, and has passed the test
+pub asked-of : {A : Type 0} (said : Said A) (test : A → Bool) (number : ℕ) (beside : A → ℕ) (a : A)
+    → onward said (λ x. demand (test x) number (beside x) (answers x)) ≡ answers a → (said ≡ answers a) × (test a ≡ true)
+asked-of (answers x) test number beside a e =
+    let p = passed (test x) number (beside x) (answers x) e in
+    (p .1, for-the-answer (λ y. test y ≡ true) (p .1) (p .0))
+asked-of (refuses n b) test number beside a e = absurd (not-both e)
+
+-- an enum's value read from what it says: by its case for answers and its case for refusals
+abbrev pub readFrom : {A E : Type 0} → (A → E) → (Refusal → E) → Said A → E
+readFrom answer refuse (answers a) = answer a
+readFrom answer refuse (refuses number beside) = refuse (numbered number beside)
 
 -- what was answered in the end was first answered, and then gone on with
 pub went-on : {A B : Type 0} {b : B} (said : Said A) (rest : A → Said B) → onward said rest ≡ answers b

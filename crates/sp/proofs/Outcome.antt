@@ -1,7 +1,7 @@
 -- The ways of a whole SP call: it refuses and leaves everything, or has room and writes.
 -- Assumes nothing.
 use Prim.Native.Nat.{ℕ, _*_, _≤_}
-use mathlib.Core.Path.{_≡_, refl, sym, ap, _∙_, subst}
+use mathlib.Core.Path.{_≡_, refl, sym, _∙_, subst}
 use mathlib.Core.List.{List}
 use mathlib.Core.Bool.{true, false}
 use native.Mathlib.Omega.{arith}
@@ -9,13 +9,12 @@ use borrow.Author.Tests.{le-leb, leb-true}
 use lib.Dec.{leb}
 use Rattle.tables.proofs.Lent.{leaves-over}
 use Rattle.refusals.specs.Numbers.{numbered}
-use Rattle.refusals.specs.Said.{Said, answers, refuses, demand}
-use Rattle.refusals.proofs.Said.{passed, went-on, only-one}
+use Rattle.refusals.specs.Said.{Said, answers, refuses}
+use Rattle.refusals.proofs.Said.{passed, went-on, only-one, readFrom, asked-of}
 use Rattle.sp.specs.declared.Run.{Run}
 use Rattle.sp.specs.declared.Demuxed.{Demuxed}
 use Rattle.detect.specs.declared.Recording.{Recording}
-use Rattle.detect.specs.Admissions.{announcedBy}
-use Rattle.detect.proofs.Admissions.{Sound}
+use Rattle.detect.specs.Admissions.{announcedBy, Sound}
 use Rattle.sp.specs.declared.Demuxed.the-variants.{Packets, Refused}
 use Rattle.sp.specs.Readings.{Reading, total, readingOf, readBy}
 use Rattle.sp.specs.Outcome.{roomIn, inRoom, answered, demuxedSays, Demuxes}
@@ -84,20 +83,13 @@ pub accepted-read : (reading : Said Reading) (out out′ counts counts′ : List
 unfolding inRoom
 accepted-read reading out out′ counts counts′ answer d n e =
     let w = went-on (inRoom reading (roomIn out counts)) (λ r. answers (total r)) (sym (d .answer-is) ∙ e) in
-    let v = went-on reading (λ r. demand (leb (total r) (roomIn out counts)) 8 (total r) (answers r)) (w .1) in
-    let test = passed (leb (total (v .0)) (roomIn out counts)) 8 (total (v .0)) (answers (v .0)) (v .2) in
-    let same : v .0 ≡ w .0 = cc in
+    let v = asked-of reading (λ r. leb (total r) (roomIn out counts)) 8 total (w .0) (w .1) in
     let many : total (w .0) ≡ n = cc in
-    let fits : total (v .0) ≤ roomIn out counts = leb-true (total (v .0)) (roomIn out counts) (test .0) in
-    (w .0, rw (← same) (v .1), many, omega (arith, ap total same), w .1)
+    let fits : total (w .0) ≤ roomIn out counts = leb-true (total (w .0)) (roomIn out counts) (v .1) in
+    (w .0, v .0, many, omega (arith, many), w .1)
 
 -- an answer is read back from what it says
-demuxed-read : Said ℕ → Demuxed
-demuxed-read (answers n) = Packets n
-demuxed-read (refuses number beside) = Refused (numbered number beside)
-
-demuxed-back : (x : Demuxed) → demuxed-read (demuxedSays x) ≡ x
-unfolding demuxed-read
+demuxed-back : (x : Demuxed) → readFrom Packets Refused (demuxedSays x) ≡ x
 demuxed-back (Packets n) = refl
 demuxed-back (Refused why) = refl
 
@@ -109,7 +101,7 @@ pub only-outcome : {reading : Said Reading} {out out₁ out₂ counts counts₁ 
     → Demuxes reading out out₁ counts counts₁ one → Demuxes reading out out₂ counts counts₂ other
     → _≡_ {A = Seen} (one, out₁, counts₁) (other, out₂, counts₂)
 only-outcome {reading} {out} {out₁} {out₂} {counts} {counts₁} {counts₂} {one} {other} d e =
-    let answer : one ≡ other = only-one demuxedSays demuxed-read demuxed-back one other _ (d .answer-is) (e .answer-is) in
+    let answer : one ≡ other = only-one demuxedSays (readFrom Packets Refused) demuxed-back one other _ (d .answer-is) (e .answer-is) in
     cc (answer, d .out-is, e .out-is, d .counts-are, e .counts-are)
 
 -- the reading of what was admitted is the reading of the file

@@ -5,13 +5,13 @@ use mathlib.Core.Path.{_≡_, refl, sym, ap, _∙_, subst}
 use mathlib.Core.List.{List, [], _∷_, _++_, append-assoc, append-nil}
 use native.Mathlib.Nat.{mul-le-mul-left, mul-suc, mul-zero, not-suc-le-zero, le-of-suc-le-suc}
 use native.Mathlib.Omega.{arith}
-use lib.ListN.{length, getD, length-append, List·getD-append}
+use lib.ListN.{length, getD, set, length-append, List·getD-append}
 use lib.Seq.{getD-append-add, ext-getD}
 use Rattle.tables.specs.Table.{sumOf, Each}
 use Rattle.tables.specs.Lent.{Leaves}
 use Rattle.tables.specs.Entries.{inTurn, fronted, Fronts, Puts}
 use Rattle.tables.proofs.Cases.{by-order}
-use Rattle.tables.proofs.Lent.{leaves-none, leaves-to, leaves-as, leaves-join, leaves-over}
+use Rattle.tables.proofs.Lent.{leaves-none, leaves-first, leaves-more, leaves-to, leaves-as, leaves-join, leaves-over, over-in, over-long, over-leaves}
 
 -- entries of one width, so many in all
 pub in-turn-long : {A : Type 0} (entry : A → List ℕ) (w : ℕ) → ((x : A) → length (entry x) ≡ w) → (xs : List A)
@@ -65,17 +65,51 @@ pub fronts-begin : {A : Type 0} (entry : A → List ℕ) (d : List ℕ) (most : 
 unfolding inTurn
 fronts-begin entry d most = fronts-none d most
 
--- an entry that is not to be written leaves all as it was, and one that is to be is written
-pub puts-none : (d : List ℕ) (number most : ℕ) (entry : List ℕ) → most ≤ number → Puts d number most entry d
-puts-none d number most entry h = record { put = λ below. absurd (omega arith); left-out = λ _. refl }
-
-pub puts-all : (d : List ℕ) (number most : ℕ) (entry e : List ℕ) → number < most
-    → Leaves d (length entry * number) (length entry) (λ k. getD entry k 0) e → Puts d number most entry e
-puts-all d number most entry e h w = record { put = λ _. w; left-out = λ past. absurd (omega arith) }
-
 -- an entry below a number of them lies below that many in words
 entry-below : (w n most : ℕ) → n < most → w * n + w ≤ w * most
 entry-below w n most h = let whole : w * suc n ≤ w * most = mul-le-mul-left w h in omega (arith, mul-suc w n)
+
+-- words stored one after another from a on, the first i of them before
+abbrev pub storedFrom : List ℕ → ℕ → ℕ → List ℕ → List ℕ
+storedFrom e a i [] = e
+storedFrom e a i (x ∷ rest) = storedFrom (set e (a + i) x) a (i + 1) rest
+
+-- what they leave
+stores : (d : List ℕ) (a i : ℕ) (f : ℕ → ℕ) (e rest : List ℕ) → a + (i + length rest) ≤ length d
+    → ((k : ℕ) → k < length rest → getD rest k 0 ≡ f (i + k)) → Leaves d a i f e → Leaves d a (i + length rest) f (storedFrom e a i rest)
+stores d a i f e [] room are w = leaves-to (omega arith) w
+stores d a i f e (x ∷ rest) room are w =
+    let here : i + 0 ≡ i = omega arith in
+    let first : x ≡ f i = are 0 (omega arith) ∙ ap f here in
+    leaves-to (omega arith)
+    (stores d a (i + 1) f (set e (a + i) x) rest (omega arith)
+    (λ k h. let next : i + suc k ≡ i + 1 + k = omega arith in are (suc k) (omega arith) ∙ ap f next) (leaves-more d a i f e x (omega arith) first w))
+
+-- an entry's words are stored in their place, where it is one that is to be written
+pub puts-words : (d : List ℕ) (number most x : ℕ) (rest : List ℕ) → suc (length rest) * most ≤ length d → number < most
+    → Puts d number most (x ∷ rest) (storedFrom (set d (suc (length rest) * number) x) (suc (length rest) * number) 1 rest)
+puts-words d number most x rest room below =
+    record {
+      put = λ _.
+          leaves-to (omega arith)
+          (stores d at 1 word (set d at x) rest (omega (arith, fits)) (λ k h. let next : suc k ≡ 1 + k = omega arith in ap word next) (leaves-first d at word x (omega (arith, fits)) refl));
+      left-out = λ past. absurd (omega arith);
+    }
+  where
+    at : ℕ
+    at = suc (length rest) * number
+
+    word : ℕ → ℕ
+    word k = getD (x ∷ rest) k 0
+
+    fits : at + suc (length rest) ≤ suc (length rest) * most
+    fits = entry-below (suc (length rest)) number most below
+
+-- an entry of one word
+pub puts-word : (d : List ℕ) (number most v : ℕ) → most ≤ length d → number < most → Puts d number most (v ∷ []) (set d number v)
+puts-word d number most v room below =
+    let at : 1 * number ≡ number = omega arith in
+    subst (λ (a : ℕ). Puts d number most (v ∷ []) (set d a v)) at (puts-words d number most v [] (omega arith) below)
 
 -- words that are there stay where they are when more come after them
 front-stays : (words entry : List ℕ) (k : ℕ) → k < length words → getD words k 0 ≡ getD (words ++ entry) k 0
@@ -117,3 +151,21 @@ fronts-all most words h f = leaves-over (leaves-to (omega arith) f)
 -- where none is to be written, nothing changes
 pub fronts-nothing : {d e : List ℕ} (most : ℕ) (words : List ℕ) → most ≡ 0 → Fronts d most words e → e ≡ d
 fronts-nothing {d} {e} most words none f = ext-getD 0 e d (f .long) (λ i h. f .high i (omega arith))
+
+-- where all entries are over a table's front, entry i has the w words from w i on, and every other word, and the length, is as it was
+pub entries-stand : {A : Type 0} (entry : A → List ℕ) (w : ℕ) → ((x : A) → length (entry x) ≡ w) → (xs : List A) (none : A) (d : List ℕ)
+    → w * length xs ≤ length d
+    → ((i k : ℕ) → i < length xs → k < w → getD (fronted (inTurn entry xs) d) (w * i + k) 0 ≡ getD (entry (getD xs i none)) k 0)
+    × ((j : ℕ) → w * length xs ≤ j → getD (fronted (inTurn entry xs) d) j 0 ≡ getD d j 0)
+    × (length (fronted (inTurn entry xs) d) ≡ length d)
+entries-stand entry w wide xs none d room = (
+  (λ i k h l.
+      let below : w * i + w ≤ w * length xs = entry-below w i (length xs) h in
+      over-in (length (inTurn entry xs)) (λ j. getD (inTurn entry xs) j 0) d (w * i + k) (omega (arith, long, below)) (omega (arith, below))
+      ∙ in-turn-at entry w wide xs none i k h l),
+  (λ j past. over-leaves (length (inTurn entry xs)) (λ j. getD (inTurn entry xs) j 0) d (omega (arith, long)) .high j (omega (arith, long))),
+  over-long (length (inTurn entry xs)) (λ j. getD (inTurn entry xs) j 0) d,
+)
+  where
+    long : length (inTurn entry xs) ≡ w * length xs
+    long = in-turn-long entry w wide xs

@@ -1,13 +1,14 @@
 -- A list written from a function has its values, and a list that has them is that list.
 -- Assumes nothing.
 use Prim.Native.Nat.{ℕ, zero, suc, _+_, _<_}
-use mathlib.Core.Path.{_≡_, refl, sym, ap, _∙_}
+use mathlib.Core.Path.{_≡_, refl, sym, ap, _∙_, subst}
 use mathlib.Core.List.{List, [], _∷_, _++_}
 use native.Mathlib.Nat.{le-of-suc-le-suc, not-suc-le-zero}
 use native.Mathlib.Numerals.{add-one}
 use native.Mathlib.Omega.{arith}
-use lib.ListN.{length, getD}
-use lib.Seq.{ext-getD}
+use lib.ListN.{length, getD, length-append, List·getD-append}
+use lib.Seq.{ext-getD, getD-append-seam}
+use Rattle.tables.proofs.Cases.{by-order}
 use Rattle.tables.specs.Table.{table, sum, sumOf, Each}
 
 pub length-table : (n : ℕ) (f : ℕ → ℕ) → length (table n f) ≡ n
@@ -55,6 +56,13 @@ pub sum-none : {A : Type 0} (number : A → ℕ) → sumOf number [] ≡ 0
 unfolding sumOf
 sum-none number = refl
 
+-- two numbers that are the same of each such thing
+pub sum-same : {A : Type 0} (Such : A → Type 0) (one other : A → ℕ) → ((x : A) → Such x → one x ≡ other x) → (xs : List A) → Each Such xs
+    → sumOf one xs ≡ sumOf other xs
+unfolding sumOf Each
+sum-same Such one other same [] all = refl
+sum-same Such one other same (x ∷ rest) all = omega (arith, same x (all .0), sum-same Such one other same rest (all .1))
+
 -- two numbers of each that make up a third
 pub sum-both : {A : Type 0} (one other both : A → ℕ) → ((x : A) → one x + other x ≡ both x) → (xs : List A)
     → sumOf one xs + sumOf other xs ≡ sumOf both xs
@@ -77,3 +85,12 @@ unfolding Each
 each-at Such [] none all i h = absurd (not-suc-le-zero h)
 each-at Such (y ∷ rest) none all zero h = all .0
 each-at Such (y ∷ rest) none all (suc i) h = each-at Such rest none (all .1) i (le-of-suc-le-suc h)
+
+-- what holds of the one at each place, with one more at the end
+pub place-more : {A : Type 0} (Such : ℕ → A → Type 0) (xs : List A) (x none : A) → ((i : ℕ) → i < length xs → Such i (getD xs i none))
+    → Such (length xs) x → (i : ℕ) → i < length (xs ++ (x ∷ [])) → Such i (getD (xs ++ (x ∷ [])) i none)
+place-more {A} Such xs x none all last i h =
+    by-order i (length xs) (λ l. subst (Such i) (sym (List·getD-append xs (x ∷ []) none i l)) (all i l))
+    (λ l.
+    let end : length xs ≡ i = omega (arith, length-append xs (x ∷ [])) in
+    subst (λ (j : ℕ). Such j (getD (xs ++ (x ∷ [])) j none)) end (subst (Such (length xs)) (sym (getD-append-seam xs x [] none)) last))

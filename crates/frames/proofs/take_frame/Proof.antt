@@ -1,18 +1,24 @@
 -- `frames::take_frame` meets its contract: the bytes so far are the stream's, and no other place changes.
 -- Assumes nothing.
 use Prim.Native.Nat.{_+_, _-_, _≤_}
+use mathlib.Core.Path.{sym}
+use native.Mathlib.Omega.{arith}
+use denote.Ref.{now}
+use lib.ListN.{getD}
 use Rattle.tables.specs.Lent.{Leaves}
-use Rattle.tables.proofs.Lent.{leaves-none, leaves-next, leaves-to}
-use Rattle.blocks.specs.Places.{streamAt}
+use Rattle.tables.proofs.Lent.{leaves-none, leaves-next, leaves-as, leaves-to}
+use Rattle.blocks.specs.Places.{fileOf}
+use Rattle.blocks.proofs.Places.{stream-in}
+use Rattle.detect.specs.Admissions.{streamIn}
 use borrow.Author.Needs.{needs}
 use Rattle.frames.proofs.take_frame.Statement.{statement}
 use Rattle.frames.proofs.take_frame.Tie as tie
 
 abbrev Inv-loop : tie.InvT-loop
-Inv-loop file size scratch₀ start blocks first k₀ scratch k = (k ≤ size) × Leaves scratch₀ 0 k (λ j. streamAt file (start .0) blocks (first + j)) scratch
+Inv-loop file size scratch₀ start first k₀ scratch k = (k ≤ size) × Leaves scratch₀ 0 k (λ j. getD file (fileOf (start .0) (first + j)) 0) scratch
 
 abbrev μ-loop : tie.MeasureT-loop
-μ-loop file size scratch₀ start blocks first k₀ scratch k = size - k
+μ-loop file size scratch₀ start first k₀ scratch k = size - k
 
 loop-holds : tie.Need-loop-holds Inv-loop μ-loop
 loop-holds c = (search needs, leaves-none _ _ _)
@@ -41,7 +47,12 @@ same-length : tie.Need-same-length Inv-loop μ-loop
 same-length c = search needs
 
 returns : tie.Need-returns Inv-loop μ-loop
-returns c = leaves-to (search needs) (c .before .loop .inv .1)
+returns c =
+    let s = c .before .before .before .before .before in
+    let a = s .args in
+    leaves-as (λ k. streamIn (now (a .file)) (a .recording) (a .place .0 + k))
+    (λ k h. sym (stream-in (now (a .file)) (a .recording .start .0) (a .recording .blocks) (a .place .0 + k) (omega (arith, h, s .pre .1))))
+    (leaves-to (search needs) (c .before .loop .inv .1))
 
 pub take-frame-spec : {M : Type 1} → statement M
 take-frame-spec =

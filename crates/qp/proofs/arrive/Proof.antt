@@ -1,6 +1,8 @@
 -- `qp::arrive` meets its contract: at the read place the segment goes on, elsewhere it is closed and another begun.
 -- Assumes nothing.
-use Rattle.qp.proofs.Gathers.{moves-on, moves-away, near-on, near-away}
+use Prim.Native.Nat.{_+_}
+use native.Mathlib.Omega.{arith}
+use Rattle.qp.proofs.Gathers.{moves-on, moves-away, near-within, near-away}
 use borrow.Author.Needs.{needs}
 use Rattle.qp.proofs.arrive.Statement.{statement}
 use Rattle.qp.proofs.arrive.Tie as tie
@@ -8,7 +10,7 @@ use Rattle.qp.proofs.arrive.Tie as tie
 returns : tie.Need-returns
 returns c =
     let a = c .before .before .before .before .args in
-    ((λ g is. moves-on (a .end) (a .at .0) (a .most) g (a .gathering) _ is (c .if1 .taken)), (λ frames kept near. near-on (a .end) frames kept (a .gathering) near))
+    ((λ g is. moves-on (a .end) (a .at .0) (a .most) g (a .gathering) _ is (c .if1 .taken)), (λ frames kept near. near-within (a .end) frames kept (a .gathering) near frames (kept + 1) (omega arith) (omega arith)))
 
 close-requires : tie.Need-close-requires
 close-requires c κs = search needs

@@ -1,10 +1,7 @@
 -- `qp::put` meets its contract: the four words follow one another, or nothing is written.
 -- Assumes nothing.
-use native.Mathlib.Omega.{arith}
 use lib.ListN.{length-set}
-use Rattle.tables.proofs.Entries.{puts-all}
-use Rattle.qp.specs.Outcome.{entryOf}
-use Rattle.qp.proofs.Entry.{entry-put}
+use Rattle.tables.proofs.Entries.{puts-words}
 use borrow.Author.Needs.{needs}
 use Rattle.qp.proofs.put.Statement.{statement}
 use Rattle.qp.proofs.put.Tie as tie
@@ -66,9 +63,7 @@ same-length c = search needs
 returns-2 : tie.Need-returns-2
 returns-2 c =
     let e = c .before .before .before .before in
-    let s = e .before in
-    let a = s .args in
-    puts-all _ _ _ (entryOf (a .segment)) _ (e .if1 .left) (entry-put _ _ (a .segment) (omega (arith, e .if1 .left, s .pre .1)))
+    puts-words _ _ _ _ _ (e .before .pre .1) (e .if1 .left)
 
 pub put-spec : {M : Type 1} → statement M
 put-spec =

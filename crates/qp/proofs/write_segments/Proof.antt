@@ -38,7 +38,7 @@ arrive-requires c κs =
     let s = i .before .before .before .before .before in
     let few = few-blocks _ (s .args .recording) (s .pre .0) in
     let below = i .loop-test .taken in (
-      (near-within _ _ _ _ (l .inv .near) _ (omega (arith, few, below)) (omega (arith, few, below)), omega (arith, few), omega (arith, c .before .block-start .ensures .1, below)),
+      (near-within _ _ _ _ (l .inv .near) _ _ (omega (arith, few, below)) (omega (arith, few, below)), omega (arith, few), omega (arith, c .before .block-start .ensures .1, below)),
       omega (arith, s .pre .1, l .inv .holds .long),
     )
 
@@ -82,7 +82,7 @@ close-requires c κs =
     let l = c .before .before .loop in
     let s = c .before .before .before .before .before .before in
     let few = few-blocks _ (s .args .recording) (s .pre .0) in (
-      (near-within _ _ _ _ (l .inv .near) _ (omega (arith, few, l .inv .below)) (omega (arith, few, l .inv .below)), omega (arith, few)),
+      (near-within _ _ _ _ (l .inv .near) _ _ (omega (arith, few, l .inv .below)) (omega (arith, few, l .inv .below)), omega (arith, few)),
       omega (arith, s .pre .1, l .inv .holds .long),
     )
 

@@ -1,6 +1,6 @@
 -- `qp7::note` meets its contract: a place is an entry of one word.
 -- Assumes nothing.
-use Rattle.qp7.proofs.Entered.{puts-word}
+use Rattle.tables.proofs.Entries.{puts-word}
 use borrow.Author.Needs.{needs}
 use Rattle.qp7.proofs.note.Statement.{statement}
 use Rattle.qp7.proofs.note.Tie as tie

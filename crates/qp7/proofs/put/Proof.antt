@@ -2,7 +2,7 @@
 -- Assumes nothing.
 use native.Mathlib.Omega.{arith}
 use lib.ListN.{length-set}
-use Rattle.qp7.proofs.Entered.{puts-three}
+use Rattle.tables.proofs.Entries.{puts-words}
 use borrow.Author.Needs.{needs}
 use Rattle.qp7.proofs.put.Statement.{statement}
 use Rattle.qp7.proofs.put.Tie as tie
@@ -52,7 +52,7 @@ same-length c = search needs
 returns-2 : tie.Need-returns-2
 returns-2 c =
     let e = c .before .before .before in
-    puts-three _ _ _ _ _ _ (e .before .pre .3) (e .if1 .left)
+    puts-words _ _ _ _ _ (e .before .pre .3) (e .if1 .left)
 
 pub put-spec : {M : Type 1} → statement M
 put-spec =

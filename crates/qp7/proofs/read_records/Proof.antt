@@ -10,7 +10,7 @@ use Rattle.refusals.proofs.Said.{not-both}
 use Rattle.qp7.specs.declared.Walk.{Walk}
 use Rattle.qp7.specs.Records.{recordSays}
 use Rattle.qp7.specs.Walk.{Gathered}
-use Rattle.qp7.specs.Written.{standing}
+use Rattle.qp7.specs.Written.{numbersOf}
 use Rattle.qp7.proofs.Records.{record-found, why-is}
 use Rattle.qp7.proofs.Reading.{Came, reading-begins, reading-goes-on, reading-stops, reading-ends, near-after}
 use borrow.Author.Needs.{needs}
@@ -20,7 +20,7 @@ use Rattle.qp7.proofs.read_records.Tie as tie
 abbrev Inv-loop : tie.InvT-loop
 Inv-loop file recording walk count most records₀ base at₀ k₀ records at k =
     (k ≤ count) × (at .0 ≤ 506 * recording .blocks) × (length records ≡ length records₀)
-    × ((g : Gathered) → walk ≡ standing g
+    × ((g : Gathered) → walk ≡ numbersOf g
     → Came (streamAt file (recording .start .0) (recording .blocks)) (506 * recording .blocks) count most g records₀ records (at .0) k)
 
 abbrev μ-loop : tie.MeasureT-loop

@@ -1,6 +1,10 @@
 -- `qp7::record_at` meets its contract: by the ways of finding a record.
 -- Assumes nothing.
-use mathlib.Core.Path.{ap, _∙_}
+use Prim.Native.Nat.{_+_}
+use mathlib.Core.Path.{sym, ap, _∙_}
+use native.Mathlib.Omega.{arith}
+use denote.Ref.{now}
+use Rattle.blocks.proofs.Places.{stream-in}
 use Rattle.qp7.specs.Records.{recordSize}
 use Rattle.qp7.proofs.Records.{no-selector, runs-past, record-there}
 use borrow.Author.Needs.{needs}
@@ -37,13 +41,19 @@ record-requires c κs = search needs
 returns-2 : tie.Need-returns-2
 returns-2 c =
     let h = c .before .before in
-    let size = h .size-of .ensures .0 ∙ ap recordSize (h .before .stream-byte .ensures) in
+    let t = h .before .before in
+    let s = t .before .before .before in
+    let byte = h .before .stream-byte .ensures ∙ sym (stream-in (now (s .args .file)) (s .args .recording .start .0) (s .args .recording .blocks) (s .args .at .0 + 1) (omega (arith, t .if1 .left))) in
+    let size = h .size-of .ensures .0 ∙ ap recordSize byte in
     rw (c .«record» .ensures) (runs-past _ _ _ _ (h .before .before .if1 .left) size (c .before .if2 .taken))
 
 returns-3 : tie.Need-returns-3
 returns-3 c =
     let h = c .before in
-    let size = h .size-of .ensures .0 ∙ ap recordSize (h .before .stream-byte .ensures) in
+    let t = h .before .before in
+    let s = t .before .before .before in
+    let byte = h .before .stream-byte .ensures ∙ sym (stream-in (now (s .args .file)) (s .args .recording .start .0) (s .args .recording .blocks) (s .args .at .0 + 1) (omega (arith, t .if1 .left))) in
+    let size = h .size-of .ensures .0 ∙ ap recordSize byte in
     record-there _ _ _ _ (h .before .before .if1 .left) size (c .if2 .left)
 
 pub record-at-spec : {M : Type 1} → statement M
