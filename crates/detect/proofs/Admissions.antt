@@ -12,7 +12,8 @@ use lib.Dec.{leb}
 use Rattle.tables.proofs.Cases.{by-order}
 use Rattle.tables.proofs.Tests.{told}
 use Rattle.blocks.specs.Places.{limit, wholeBlocks}
-use Rattle.refusals.specs.Said.{Said, answers, refuses, demand}
+use Rattle.refusals.specs.declared.Refusal.{Refusal}
+use Rattle.refusals.specs.Said.{Said, answers, refuses, demand, refusal}
 use Rattle.refusals.proofs.Said.{passed, not-both, went-on}
 use Rattle.detect.specs.declared.Kind.{Kind}
 use Rattle.detect.specs.Kinds.{formatType, kindOf, readAs}
@@ -122,7 +123,7 @@ four-bytes f dss ds2 rec e =
 
 -- the ways of an admission to a DS2 reading of one kind
 module _ (f : List ℕ) (kind : Kind) where
-  pub ds2-refused : {number beside : ℕ} → refuses number beside ≡ admission f false true → refuses number beside ≡ ds2Admission f kind
+  pub ds2-refused : {why : Refusal} → refusal why ≡ admission f false true → refusal why ≡ ds2Admission f kind
   unfolding ds2Admission
   ds2-refused e = rw (← e)
 

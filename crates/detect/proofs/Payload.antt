@@ -8,10 +8,11 @@ use native.Mathlib.Omega.{arith}
 use borrow.Author.Tests.{lt-ltb, le-ltb, ltb-true}
 use lib.ListN.{take, drop, length}
 use lib.Dec.{ltb}
+use Rattle.refusals.specs.declared.Refusal.{Refusal}
 use Rattle.refusals.proofs.Said.{went-on, passed}
 use Rattle.blocks.proofs.Stream.{payload-long}
 use Rattle.blocks.specs.Places.{Whole, fileOf, payloadOf}
-use Rattle.refusals.specs.Said.{answers, refuses}
+use Rattle.refusals.specs.Said.{answers, refuses, refusal}
 use Rattle.detect.specs.declared.Recording.{Recording}
 use Rattle.detect.specs.Admissions.{admission}
 use Rattle.detect.proofs.Admissions.{sound}
@@ -19,7 +20,7 @@ use Rattle.detect.specs.Payload.{payloadPlace, payloadShown, placeIn}
 
 -- the ways of a request
 module _ (f : List ℕ) (block : ℕ) where
-  pub place-refused : {number beside : ℕ} → refuses number beside ≡ admission f true true → refuses number beside ≡ payloadPlace f block
+  pub place-refused : {why : Refusal} → refusal why ≡ admission f true true → refusal why ≡ payloadPlace f block
   unfolding payloadPlace
   place-refused e = rw (← e)
 
@@ -42,7 +43,7 @@ module _ (f : List ℕ) (block : ℕ) where
         let place : rec .start .0 + 512 * block + 6 ≡ fileOf (rec .start .0) (506 * block) = omega arith in
         rw (← place-at h, place)
 
-  pub shown-none : {number beside : ℕ} → refuses number beside ≡ payloadPlace f block → take 0 (drop 0 f) ≡ payloadShown f block
+  pub shown-none : {why : Refusal} → refusal why ≡ payloadPlace f block → take 0 (drop 0 f) ≡ payloadShown f block
   unfolding payloadShown
   shown-none e = rw (← e)
 

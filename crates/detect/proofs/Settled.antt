@@ -6,8 +6,8 @@ use mathlib.Core.List.{List}
 use denote.Ref.{now}
 use Rattle.blocks.specs.declared.FilePlace.{FilePlace}
 use Rattle.tables.specs.Settled.{SettledResult, SettledAs}
-use Rattle.refusals.specs.Said.{Said, answers, refuses}
-use Rattle.refusals.proofs.Said.{only-one}
+use Rattle.refusals.specs.Said.{Said}
+use Rattle.refusals.proofs.Said.{only-one, readFrom}
 use Rattle.detect.specs.declared.PayloadAnswer.{PayloadAnswer}
 use Rattle.detect.specs.declared.PayloadAnswer.the-variants.{At, Refused}
 use Rattle.detect.specs.Payload.{payloadSays}
@@ -40,17 +40,15 @@ pub detect-format-settled : SettledResult 1 format.ps format.r format-reads.Post
 detect-format-settled κs a x y s t p q = p ∙ sym q
 
 -- a request's answer is read back from what it says
-payload-read : Said ℕ → PayloadAnswer
-payload-read (answers place) = At (record { 0 = place })
-payload-read (refuses number beside) = Refused (record { number = number; beside = beside })
+abbrev placeFrom : Said ℕ → PayloadAnswer
+placeFrom said = readFrom (λ place. At (record { 0 = place })) Refused said
 
-payload-back : (x : PayloadAnswer) → payload-read (payloadSays x) ≡ x
-unfolding payload-read
+payload-back : (x : PayloadAnswer) → placeFrom (payloadSays x) ≡ x
 payload-back (At place) = refl
 payload-back (Refused why) = refl
 
 pub payload-place-settled : SettledResult 1 place.ps place.r place-reads.Post
-payload-place-settled κs a x y s t p q = only-one payloadSays payload-read payload-back x y _ p q
+payload-place-settled κs a x y s t p q = only-one payloadSays placeFrom payload-back x y _ p q
 
 -- of a part, its bytes
 pub payload-settled : SettledAs 1 part.ps part.r (λ κs. List ℕ) (λ κs x s. now x) part-reads.Post

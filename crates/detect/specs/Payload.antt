@@ -6,7 +6,7 @@ use mathlib.Core.Bool.{true}
 use lib.ListN.{take, drop}
 use lib.Dec.{ltb}
 use Rattle.blocks.specs.Places.{fileOf}
-use Rattle.refusals.specs.Said.{Said, answers, refuses, refusal, demand, onward}
+use Rattle.refusals.specs.Said.{Said, answers, refusal, demand, onward}
 use Rattle.detect.specs.declared.Recording.{Recording}
 use Rattle.detect.specs.declared.PayloadAnswer.{PayloadAnswer}
 use Rattle.detect.specs.declared.PayloadAnswer.the-variants.{At, Refused}
@@ -28,7 +28,7 @@ payloadSays (Refused why) = refusal why
 -- the 506 bytes from that place on; a refused call shows an empty part
 abbrev pub shownAt : List ℕ → Said ℕ → List ℕ
 shownAt f (answers place) = take 506 (drop place f)
-shownAt f (refuses number beside) = []
+shownAt f (refusal why) = []
 
 -- of any file
 unfoldable pub payloadShown : List ℕ → ℕ → List ℕ

@@ -8,7 +8,9 @@ use native.Mathlib.Omega.{arith}
 use borrow.Author.Tests.{ne-eqb}
 use Rattle.blocks.specs.Places.{streamAt}
 use Rattle.blocks.specs.Headers.{firstOf, countOf}
-use Rattle.refusals.specs.Said.{refuses}
+use Rattle.refusals.specs.declared.Refusal.{Refusal}
+use Rattle.refusals.specs.Numbers.{numbered}
+use Rattle.refusals.specs.Said.{refuses, refusal}
 use Rattle.detect.specs.declared.Kind.the-variants.{Qp7}
 use Rattle.frames.specs.Start.{framesStart}
 use Rattle.qp7.specs.Records.{recordSize, recordAt}
@@ -23,8 +25,8 @@ module _ (s : ℕ → ℕ) (long n : ℕ) (g : Gathered) where
   reads-on : g .place + 56 ≤ long → recordSize (s (g .place + 1)) ≡ 56 → reads s long (suc n) g ≡ reads s long n (noted 56 g)
   reads-on fits size = reads-more s long (suc n) n g refl ∙ rw (← record-there s long (g .place) 56 (omega arith) (sym size) fits)
 
-  reads-stop : (number beside : ℕ) → refuses number beside ≡ recordAt s long (g .place) → reads s long (suc n) g ≡ refuses number beside
-  reads-stop number beside is = reads-more s long (suc n) n g refl ∙ rw (← is)
+  reads-stop : (why : Refusal) → refusal why ≡ recordAt s long (g .place) → reads s long (suc n) g ≡ refusal why
+  reads-stop why is = reads-more s long (suc n) n g refl ∙ rw (← is)
 
 -- after m long records that fit, the rest is read 56 m bytes on
 after-long : (s : ℕ → ℕ) (long m n : ℕ) (g : Gathered)
@@ -50,11 +52,11 @@ after-long s long (suc m) n g each =
         (omega (arith, next .0), ap (λ (x : ℕ). recordSize (s x)) (sym at) ∙ next .1)
 
 -- a file of one block whose records cannot be read is refused as they are
-refused-block : (f : List ℕ) (number beside : ℕ) → Ds2File Qp7 1 f
-    → reads (streamAt f 1536 1) 506 (countOf f 1536 0) (raised (framesStart 0 (firstOf f 1536 0)) nothing) ≡ refuses number beside
-    → qp7Reading f ≡ refuses number beside
+refused-block : (f : List ℕ) (why : Refusal) → Ds2File Qp7 1 f
+    → reads (streamAt f 1536 1) 506 (countOf f 1536 0) (raised (framesStart 0 (firstOf f 1536 0)) nothing) ≡ refusal why
+    → qp7Reading f ≡ refusal why
 unfolding qp7Reading gatheredFrom gatheredTo withBlock
-refused-block f number beside file is =
+refused-block f why file is =
     let some : countOf f 1536 0 ≡ 0 → ⊥ = λ none. omega (arith, file .announces, none) in
     rw (taken-as Qp7 1 f (omega arith) (omega arith) file) (simp (ne-eqb (countOf f 1536 0) 0 some, is))
 
@@ -65,16 +67,16 @@ tenth : (s : ℕ → ℕ) (start number : ℕ) (g : Gathered) → g .place ≡ s
 tenth s start number g at few each last =
     let rest = after-long s 506 9 1 g (λ k h. (omega (arith, at), rw at (each k (omega arith)))) in
     let there : rest .0 .place ≡ start + 504 = omega (arith, rest .2, at) in
-    rest .1 ∙ reads-stop s 506 0 (rest .0) number (start + 504) (last ∙ ap (recordAt s 506) (sym there))
+    rest .1 ∙ reads-stop s 506 0 (rest .0) (numbered number (start + 504)) (last ∙ ap (recordAt s 506) (sym there))
 
 pub five-holds : Example5
 unfolding framesStart
 five-holds f file ten = (
   (λ three long.
-      refused-block f 5 504 file
+      refused-block f (numbered 5 504) file
       (rw (ten, three)
       (tenth (streamAt f 1536 1) 0 5 (raised 0 nothing) refl (omega arith) long (runs-past (streamAt f 1536 1) 506 504 56 (omega arith) (sym (long 9 (omega arith))) (omega arith))))),
   (λ four long.
-      refused-block f 4 506 file
+      refused-block f (numbered 4 506) file
       (rw (ten, four) (tenth (streamAt f 1536 1) 2 4 (raised 2 nothing) refl (omega arith) long (no-selector (streamAt f 1536 1) 506 506 (omega arith))))),
 )

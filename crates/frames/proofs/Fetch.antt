@@ -13,8 +13,8 @@ use Rattle.tables.specs.Lent.{over}
 use Rattle.tables.proofs.Lent.{over-long}
 use Rattle.tables.proofs.Parts.{part-is}
 use Rattle.blocks.specs.Places.{fileOf, streamAt}
-use Rattle.refusals.specs.Numbers.{numbered}
-use Rattle.refusals.specs.Said.{Said, answers, refuses, demand}
+use Rattle.refusals.specs.declared.Refusal.{Refusal}
+use Rattle.refusals.specs.Said.{Said, answers, refuses, demand, refusal}
 use Rattle.refusals.proofs.Said.{passed, went-on}
 use Rattle.detect.specs.declared.Recording.{Recording}
 use Rattle.detect.specs.Admissions.{admission}
@@ -67,7 +67,7 @@ both-hold false b e = (e, cc)
 
 -- the ways of a request
 module _ (f : List ℕ) (q size room : ℕ) where
-  pub fetch-refused : {number beside : ℕ} → refuses number beside ≡ admission f false true → refuses number beside ≡ fetchFrom f q size room
+  pub fetch-refused : {why : Refusal} → refusal why ≡ admission f false true → refusal why ≡ fetchFrom f q size room
   unfolding fetchFrom
   fetch-refused e = rw (← e)
 
@@ -106,8 +106,8 @@ module _ (f : List ℕ) (q size room : ℕ) where
       (c .most, omega (arith, c .whole, c .some, c .there))
 
   -- what is said of its stand
-  pub stand-refused : {number beside : ℕ} → refuses number beside ≡ fetchFrom f q size room
-      → refuses number beside ≡ standing (fetchFrom f q size room) q size
+  pub stand-refused : {why : Refusal} → refusal why ≡ fetchFrom f q size room
+      → refusal why ≡ standing (fetchFrom f q size room) q size
   unfolding standing
   stand-refused e = rw (← e)
 
@@ -118,12 +118,12 @@ module _ (f : List ℕ) (q size room : ℕ) where
 
 -- what the two calls do with a scratch
 module _ (f : List ℕ) (q size : ℕ) (scratch : List ℕ) where
-  pub fill-refused : (number beside : ℕ) → refuses number beside ≡ fetchFrom f q size (length scratch)
-      → Fills f q size scratch scratch (Refused (numbered number beside))
+  pub fill-refused : (why : Refusal) → refusal why ≡ fetchFrom f q size (length scratch)
+      → Fills f q size scratch scratch (Refused why)
   unfolding filled
-  fill-refused number beside e = record { answer-is = stand-refused f q size (length scratch) e; scratch-is = rw (← e) }
+  fill-refused why e = record { answer-is = stand-refused f q size (length scratch) e; scratch-is = rw (← e) }
 
-  pub show-refused : {number beside : ℕ} → refuses number beside ≡ fetchFrom f q size (length scratch)
+  pub show-refused : {why : Refusal} → refusal why ≡ fetchFrom f q size (length scratch)
       → take 0 (drop 0 f) ≡ shown f q size scratch
   unfolding shown
   show-refused e = rw (← e)

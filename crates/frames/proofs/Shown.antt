@@ -15,7 +15,8 @@ use Rattle.tables.proofs.Lent.{over-long, over-in, over-leaves}
 use Rattle.blocks.specs.Places.{fileOf, streamAt}
 use Rattle.blocks.specs.Stream.{joined}
 use Rattle.blocks.proofs.Stream.{stream-part, together}
-use Rattle.refusals.specs.Said.{answers, refuses}
+use Rattle.refusals.specs.declared.Refusal.{Refusal}
+use Rattle.refusals.specs.Said.{answers, refusal}
 use Rattle.refusals.proofs.Said.{not-both}
 use Rattle.detect.specs.declared.Recording.{Recording}
 use Rattle.detect.specs.Admissions.{admission}
@@ -79,22 +80,22 @@ module _ (f : List ℕ) (q size : ℕ) (scratch : List ℕ) where
   unfolding filled
   filled-as rec e = rw e
 
-  filled-not : (number beside : ℕ) → fetchFrom f q size (length scratch) ≡ refuses number beside → filled f q size scratch ≡ scratch
+  filled-not : (why : Refusal) → fetchFrom f q size (length scratch) ≡ refusal why → filled f q size scratch ≡ scratch
   unfolding filled
-  filled-not number beside e = rw e
+  filled-not why e = rw e
 
   pub shown-as : (rec : Recording) → fetchFrom f q size (length scratch) ≡ answers rec → shown f q size scratch ≡ shownFrom f rec q size scratch
   unfolding shown
   shown-as rec e = rw e
 
-  pub shown-not : (number beside : ℕ) → fetchFrom f q size (length scratch) ≡ refuses number beside → shown f q size scratch ≡ []
+  pub shown-not : (why : Refusal) → fetchFrom f q size (length scratch) ≡ refusal why → shown f q size scratch ≡ []
   unfolding shown
-  shown-not number beside e = rw e
+  shown-not why e = rw e
 
   -- where the stand is a refusal, nothing is filled
-  pub stand-refuses : (number beside : ℕ) → standing (fetchFrom f q size (length scratch)) q size ≡ refuses number beside → filled f q size scratch ≡ scratch
-  stand-refuses number beside e =
-      by-said (fetchFrom f q size (length scratch)) (λ rec said. absurd (not-both (sym e ∙ sym (stand-is f q size (length scratch) rec (sym said))))) (λ n b said. filled-not n b said)
+  pub stand-refuses : (why : Refusal) → standing (fetchFrom f q size (length scratch)) q size ≡ refusal why → filled f q size scratch ≡ scratch
+  stand-refuses why e =
+      by-said (fetchFrom f q size (length scratch)) (λ rec said. absurd (not-both (sym e ∙ sym (stand-is f q size (length scratch) rec (sym said))))) (λ w said. filled-not w said)
 
   -- what holds of the filled scratch, if it holds of the two ways
   pub filled-either : (P : List ℕ → Type 0) → P scratch
@@ -102,7 +103,7 @@ module _ (f : List ℕ) (q size : ℕ) (scratch : List ℕ) where
   filled-either P kept written =
       by-said (fetchFrom f q size (length scratch))
       (λ rec said. rw (filled-as rec said) (written rec (fetched-from f q size (length scratch) rec said .1)))
-      (λ n b said. rw (filled-not n b said) kept)
+      (λ w said. rw (filled-not w said) kept)
 
   -- refused or not, the scratch stays as long as it is
   pub filled-keeps : length (filled f q size scratch) ≡ length scratch

@@ -11,7 +11,8 @@ use Rattle.tables.specs.Settled.{SettledResult, SettledAs}
 use Rattle.tables.specs.Table.{table}
 use Rattle.blocks.specs.Places.{streamAt}
 use Rattle.blocks.specs.Stream.{joined}
-use Rattle.refusals.specs.Said.{Said, answers, refuses}
+use Rattle.refusals.specs.declared.Refusal.{Refusal}
+use Rattle.refusals.specs.Said.{Said, answers, refuses, refusal}
 use Rattle.refusals.proofs.Said.{only-one}
 use Rattle.detect.specs.declared.Recording.{Recording}
 use Rattle.detect.specs.Admissions.{admission}
@@ -51,23 +52,23 @@ shows-its-size f rec q size scratch taken =
 
 -- `show` shows an empty part exactly when it refuses.
 pub shows-nothing-exactly : (f : List ℕ) (q size : ℕ) (scratch : List ℕ)
-    → ((number beside : ℕ) → fetchFrom f q size (length scratch) ≡ refuses number beside → shown f q size scratch ≡ [])
-    × (shown f q size scratch ≡ [] → (number : ℕ) × (beside : ℕ) × (fetchFrom f q size (length scratch) ≡ refuses number beside))
+    → ((why : Refusal) → fetchFrom f q size (length scratch) ≡ refusal why → shown f q size scratch ≡ [])
+    × (shown f q size scratch ≡ [] → (why : Refusal) × (fetchFrom f q size (length scratch) ≡ refusal why))
 shows-nothing-exactly f q size scratch = (
-  (λ number beside e. shown-not f q size scratch number beside e),
+  (λ why e. shown-not f q size scratch why e),
   (λ empty.
       by-said (fetchFrom f q size (length scratch))
       (λ rec said.
       let some = fetched-from f q size (length scratch) rec said .1 .some in
       absurd (omega (arith, some, ap length empty, shows-its-size f rec q size scratch said)))
-      (λ number beside said. (number, beside, said))),
+      (λ why said. (why, said))),
 )
 
 module _ (f : List ℕ) (q size : ℕ) (scratch scratch′ : List ℕ) (answer : Fetched) (d : Fills f q size scratch scratch′ answer) where
   -- A refused `fill` changes nothing.
-  pub refused-fill-changes-nothing : (number beside : ℕ) → fetchedSays answer ≡ refuses number beside → scratch′ ≡ scratch
-  refused-fill-changes-nothing number beside e =
-      d .scratch-is ∙ stand-refuses f q size scratch number beside (sym (d .answer-is) ∙ e)
+  pub refused-fill-changes-nothing : (why : Refusal) → fetchedSays answer ≡ refusal why → scratch′ ≡ scratch
+  refused-fill-changes-nothing why e =
+      d .scratch-is ∙ stand-refuses f q size scratch why (sym (d .answer-is) ∙ e)
 
   -- Nor does a `fill` for a frame inside one block.
   pub inside-fill-changes-nothing : isInside q size ≡ true → scratch′ ≡ scratch
@@ -99,7 +100,7 @@ frames-are-cut f rec scratch start long n admitted there roomy =
 fetched-read : Said Stand → Fetched
 fetched-read (answers (inFile at)) = InFile (record { 0 = at })
 fetched-read (answers inScratch) = InScratch
-fetched-read (refuses number beside) = Refused (record { number = number; beside = beside })
+fetched-read (refusal why) = Refused why
 
 fetched-back : (x : Fetched) → fetched-read (fetchedSays x) ≡ x
 unfolding fetched-read

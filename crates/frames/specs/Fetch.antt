@@ -52,7 +52,7 @@ filledFrom f rec q size scratch =
 
 abbrev pub filledBy : List ℕ → Said Recording → ℕ → ℕ → List ℕ → List ℕ
 filledBy f (answers rec) q size scratch = filledFrom f rec q size scratch
-filledBy f (refuses number beside) q size scratch = scratch
+filledBy f (refusal why) q size scratch = scratch
 
 unfoldable pub filled : List ℕ → ℕ → ℕ → List ℕ → List ℕ
 filled f q size scratch = filledBy f (fetchFrom f q size (length scratch)) q size scratch
@@ -63,7 +63,7 @@ shownFrom f rec q size scratch = cond (isInside q size) (take size (drop (fileOf
 
 abbrev pub shownBy : List ℕ → Said Recording → ℕ → ℕ → List ℕ → List ℕ
 shownBy f (answers rec) q size scratch = shownFrom f rec q size scratch
-shownBy f (refuses number beside) q size scratch = []
+shownBy f (refusal why) q size scratch = []
 
 unfoldable pub shown : List ℕ → ℕ → ℕ → List ℕ → List ℕ
 shown f q size scratch = shownBy f (fetchFrom f q size (length scratch)) q size scratch

@@ -12,8 +12,9 @@ use lib.Dec.{leb, ltb}
 use Rattle.tables.specs.Entries.{fronted}
 use Rattle.tables.proofs.Cases.{by-order}
 use Rattle.tables.proofs.Entries.{in-turn-long, fronts-all, fronts-nothing}
+use Rattle.refusals.specs.declared.Refusal.{Refusal}
 use Rattle.refusals.specs.Numbers.{numbered}
-use Rattle.refusals.specs.Said.{Said, answers, refuses}
+use Rattle.refusals.specs.Said.{Said, answers, refuses, refusal}
 use Rattle.refusals.proofs.Said.{passed, went-on, only-one, readFrom, asked-of}
 use Rattle.detect.specs.declared.Recording.{Recording}
 use Rattle.detect.specs.declared.Kind.the-variants.{Qp}
@@ -66,10 +67,10 @@ module _ (f : List ℕ) (rec : Recording) (room written needed : ℕ) (is : need
 
 -- what was admitted: a refusal is passed on, and a recording goes on to be read
 module _ (f : List ℕ) (table : List ℕ) where
-  pub not-taken : (number beside : ℕ) → refuses number beside ≡ ds2Admission f Qp
-      → Demuxes (qpReading f) table table (Refused (numbered number beside))
+  pub not-taken : (why : Refusal) → refusal why ≡ ds2Admission f Qp
+      → Demuxes (qpReading f) table table (Refused why)
   unfolding qpReading inRoom
-  not-taken number beside e = rw (← e) (record { answer-is = refl; table-is = refl })
+  not-taken why e = rw (← e) (record { answer-is = refl; table-is = refl })
 
   pub taken : (rec : Recording) (table′ : List ℕ) (answer : Demuxed) → answers rec ≡ ds2Admission f Qp
       → Demuxes (answers (readingOf f rec)) table table′ answer → Demuxes (qpReading f) table table′ answer

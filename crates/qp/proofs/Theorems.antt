@@ -19,7 +19,8 @@ use Rattle.blocks.specs.Places.{Whole}
 use Rattle.blocks.specs.Headers.{Bytes}
 use Rattle.blocks.specs.Stream.{joined}
 use Rattle.blocks.proofs.Stream.{joined-long}
-use Rattle.refusals.specs.Said.{Said, answers, refuses}
+use Rattle.refusals.specs.declared.Refusal.{Refusal}
+use Rattle.refusals.specs.Said.{Said, answers, refuses, refusal}
 use Rattle.refusals.proofs.Said.{not-both, went-on}
 use Rattle.detect.specs.declared.Recording.{Recording}
 use Rattle.detect.specs.declared.Kind.the-variants.{Qp}
@@ -43,12 +44,12 @@ use Rattle.qp.proofs.demux_ds2_qp.Reads as qp-reads
 
 module _ (reading : Said Reading) (table table′ : List ℕ) (answer : Demuxed) (d : Demuxes reading table table′ answer) where
   -- A refused call changes nothing.
-  pub refused-changes-nothing : (number beside : ℕ) → demuxedSays answer ≡ refuses number beside → table′ ≡ table
-  refused-changes-nothing number beside e = d .table-is ∙ refused (inTable reading table) (sym (d .answer-is) ∙ e)
+  pub refused-changes-nothing : (why : Refusal) → demuxedSays answer ≡ refusal why → table′ ≡ table
+  refused-changes-nothing why e = d .table-is ∙ refused (inTable reading table) (sym (d .answer-is) ∙ e)
     where
-      refused : (said : Said Reading) → answered said ≡ refuses number beside → tableAfter said table ≡ table
+      refused : (said : Said Reading) → answered said ≡ refusal why → tableAfter said table ≡ table
       refused (answers r) e = absurd (not-both (sym e))
-      refused (refuses n b) e = refl
+      refused (refusal why) e = refl
 
   -- An accepted call answers how many segments the reading has and how many frames are announced, and leaves the segments' words from the
   -- front of the table on.

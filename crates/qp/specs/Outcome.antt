@@ -6,7 +6,7 @@ use mathlib.Core.List.{List, [], _∷_}
 use lib.ListN.{length}
 use lib.Dec.{leb}
 use Rattle.tables.specs.Entries.{inTurn, fronted}
-use Rattle.refusals.specs.Said.{Said, answers, refuses, refusal, demand, onward}
+use Rattle.refusals.specs.Said.{Said, answers, refusal, demand, onward}
 use Rattle.qp.specs.declared.Segment.{Segment}
 use Rattle.qp.specs.declared.Totals.{Totals}
 use Rattle.qp.specs.declared.Demuxed.{Demuxed}
@@ -42,7 +42,7 @@ answered said = onward said (λ r. answers (totalsOf r))
 -- the table holds the words from the front on, and what lies past them is as it was
 abbrev pub tableAfter : Said Reading → List ℕ → List ℕ
 tableAfter (answers r) table = fronted (words (r .segments)) table
-tableAfter (refuses number beside) table = table
+tableAfter (refusal why) table = table
 
 -- the code's answer, read so
 abbrev pub demuxedSays : Demuxed → Said Totals

@@ -8,7 +8,7 @@ use native.Mathlib.Omega.{arith}
 use Rattle.tables.specs.Entries.{Fronts}
 use Rattle.tables.proofs.Cases.{by-order}
 use Rattle.refusals.specs.declared.Refusal.{Refusal}
-use Rattle.refusals.specs.Said.{Said, answers, refuses, refusal, onward}
+use Rattle.refusals.specs.Said.{Said, answers, refusal, onward}
 use Rattle.refusals.proofs.Said.{not-both, went-on, for-the-answer}
 use Rattle.detect.specs.declared.Recording.{Recording}
 use Rattle.qp7.specs.declared.Totals.{Totals}
@@ -25,8 +25,8 @@ unfolding gatheredTo
 gathered-more f a n b = ap (gatheredTo f a n) (add-one b)
 
 -- a refusal at a block stays
-gathered-stays : (f : List ℕ) (a n b m : ℕ) {number beside : ℕ} → b ≤ m → gatheredTo f a n b ≡ refuses number beside
-    → gatheredTo f a n m ≡ refuses number beside
+gathered-stays : (f : List ℕ) (a n b m : ℕ) {why : Refusal} → b ≤ m → gatheredTo f a n b ≡ refusal why
+    → gatheredTo f a n m ≡ refusal why
 unfolding gatheredTo
 gathered-stays f a n b zero h e = let none : b ≡ 0 = omega arith in ap (gatheredTo f a n) (sym none) ∙ e
 gathered-stays f a n b (suc m) h e =
@@ -57,9 +57,9 @@ stands-answered said walk e =
     let w = went-on said (λ g. answers (numbersOf g)) (sym e) in
     (w .0, w .1, for-the-answer (λ (v : Walk). v ≡ numbersOf (w .0)) (w .2) refl)
 
-pub stands-refused : (said : Said Gathered) {number beside : ℕ} → refuses number beside ≡ numbersAt said → said ≡ refuses number beside
+pub stands-refused : (said : Said Gathered) {why : Refusal} → refusal why ≡ numbersAt said → said ≡ refusal why
 stands-refused (answers g) e = absurd (not-both e)
-stands-refused (refuses number beside) e = cc
+stands-refused (refusal why) e = cc
 
 -- all blocks, and their end
 pub gathered-from : (f : List ℕ) (rec : Recording)

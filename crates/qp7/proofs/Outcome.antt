@@ -32,10 +32,10 @@ pub segment-words : (g : Gathered) → length (segmentWords g) ≡ 3 * length (g
 segment-words g = in-turn-long entryOf 3 (λ x. refl) (g .closed)
 
 -- a refusal is passed on
-passed-on : (number beside : ℕ) (records segments : List ℕ)
-    → Demuxes (refuses number beside) records records segments segments (Refused (numbered number beside))
+passed-on : (why : Refusal) (records segments : List ℕ)
+    → Demuxes (refusal why) records records segments segments (Refused why)
 unfolding inRoom
-passed-on number beside records segments = record { answer-is = refl; records-are = refl; segments-are = refl }
+passed-on why records segments = record { answer-is = refl; records-are = refl; segments-are = refl }
 
 -- the same outcome under other names
 outcome-as : {said said′ : Said Gathered} {records records′ segments segments′ : List ℕ} {answer answer′ : Demuxed} → said ≡ said′
@@ -120,7 +120,7 @@ module _ (said : Said Gathered) (records records′ segments segments′ : List 
   counting-refused why is =
       let to : said ≡ refusal why = stands-refused said (ap walkedSays (sym is) ∙ on .answer-is) in
       let kept = on .untouched refl refl in
-      rw (to, kept .0, kept .1) (passed-on (why .number) (why .beside) records segments)
+      rw (to, kept .0, kept .1) (passed-on why records segments)
 
   -- it has changed nothing before the tables are written
   pub counting-kept : (records″ segments″ : List ℕ) (answer : Demuxed) → Demuxes said records′ records″ segments′ segments″ answer
@@ -133,10 +133,10 @@ module _ (said : Said Gathered) (records records′ segments segments′ : List 
 -- what comes of the admission
 module _ (f : List ℕ) (records segments : List ℕ) where
   -- a refusal is passed on
-  pub not-taken : (number beside : ℕ) → refuses number beside ≡ ds2Admission f Qp7
-      → Demuxes (qp7Reading f) records records segments segments (Refused (numbered number beside))
+  pub not-taken : (why : Refusal) → refusal why ≡ ds2Admission f Qp7
+      → Demuxes (qp7Reading f) records records segments segments (Refused why)
   unfolding qp7Reading
-  not-taken number beside e = rw (← e) (passed-on number beside records segments)
+  not-taken why e = rw (← e) (passed-on why records segments)
 
   -- a recording goes on to be read
   pub taken : (rec : Recording) (records′ segments′ : List ℕ) (answer : Demuxed) → answers rec ≡ ds2Admission f Qp7

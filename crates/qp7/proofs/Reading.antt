@@ -8,8 +8,8 @@ use native.Mathlib.Omega.{arith}
 use lib.ListN.{length, length-append}
 use Rattle.tables.specs.Entries.{Puts}
 use Rattle.tables.proofs.Entries.{fronts-more}
-use Rattle.refusals.specs.Numbers.{numbered}
-use Rattle.refusals.specs.Said.{Said, answers, refuses, onward}
+use Rattle.refusals.specs.declared.Refusal.{Refusal}
+use Rattle.refusals.specs.Said.{Said, answers, onward, refusal}
 use Rattle.refusals.proofs.Said.{not-both, went-on, for-the-answer}
 use Rattle.qp7.specs.declared.Walk.{Walk}
 use Rattle.qp7.specs.declared.Walked.the-variants.{At, Refused}
@@ -105,16 +105,16 @@ module _ (s : ℕ → ℕ) (long count most : ℕ) (g : Gathered) (records : Lis
         entry = subst (λ (q : ℕ). Puts records′ (length (at .records)) most (q ∷ []) records″) (sym (came .place-is)) there
 
     -- a record that cannot be read
-    pub reading-stops : (number beside : ℕ) → k < count → refuses number beside ≡ recordAt s long place
-        → ReadsOn s long count most g records records′ (Refused (numbered number beside))
-    reading-stops number beside h refused =
+    pub reading-stops : (why : Refusal) → k < count → refusal why ≡ recordAt s long place
+        → ReadsOn s long count most g records records′ (Refused why)
+    reading-stops why h refused =
         record {
           answer-is = sym (ap numbersAt rest);
           written = λ d g′ e w. absurd (not-both (sym rest ∙ e));
           untouched = came .untouched;
         }
       where
-        rest : reads s long count g ≡ refuses number beside
+        rest : reads s long count g ≡ refusal why
         rest = next-is h ∙ ap (λ (said : Said ℕ). onward said (λ size. reads s long (count - (k + 1)) (noted size (came .here)))) (sym refused)
 
     -- all records are read

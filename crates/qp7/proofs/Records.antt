@@ -64,7 +64,7 @@ module _ (s : ℕ → ℕ) (long q : ℕ) where
 -- why a record cannot be read, as the code asks it
 pub why-is : {said : Said ℕ} (found : Record) (why asked : Refusal) → found ≡ Refused why → ((w : Refusal) → found ≡ Refused w → asked ≡ w)
     → recordSays found ≡ said → refusal asked ≡ said
-why-is {said} found why asked is ask says = ap (λ (r : Refusal). refusal {A = ℕ} r) (ask why is) ∙ ap recordSays (sym is) ∙ says
+why-is {said} found why asked is ask says = ap (λ (r : Refusal). refusal r) (ask why is) ∙ ap recordSays (sym is) ∙ says
 
 -- a record is refused for one reason, and one that is read for none
 pub same-why : (why other : Refusal) → _≡_ {A = Record} (Refused why) (Refused other) → why ≡ other

@@ -11,7 +11,8 @@ use Rattle.tables.specs.Table.{table}
 use Rattle.tables.specs.Entries.{fronted}
 use Rattle.blocks.specs.Places.{streamAt}
 use Rattle.blocks.specs.Stream.{joined}
-use Rattle.refusals.specs.Said.{Said, answers, refuses}
+use Rattle.refusals.specs.declared.Refusal.{Refusal}
+use Rattle.refusals.specs.Said.{Said, answers, refuses, refusal}
 use Rattle.refusals.proofs.Said.{not-both, for-the-answer}
 use Rattle.detect.specs.declared.Recording.{Recording}
 use Rattle.detect.specs.declared.Kind.the-variants.{Qp7}
@@ -90,15 +91,15 @@ module _ (f : List ℕ) (g : Gathered) (e : qp7Reading f ≡ answers g) where
 module _ (reading : Said Gathered) (records records′ segments segments′ : List ℕ) (answer : Demuxed)
     (d : Demuxes reading records records′ segments segments′ answer) where
   -- A refused call changes nothing.
-  pub refused-changes-nothing : (number beside : ℕ) → demuxedSays answer ≡ refuses number beside → (records′ ≡ records) × (segments′ ≡ segments)
-  refused-changes-nothing number beside e =
+  pub refused-changes-nothing : (why : Refusal) → demuxedSays answer ≡ refusal why → (records′ ≡ records) × (segments′ ≡ segments)
+  refused-changes-nothing why e =
       let kept = refused (inTables reading records segments) (sym (d .answer-is) ∙ e) in
       (d .records-are ∙ kept .0, d .segments-are ∙ kept .1)
     where
-      refused : (said : Said Gathered) → answered said ≡ refuses number beside
+      refused : (said : Said Gathered) → answered said ≡ refusal why
           → (recordsAfter said records ≡ records) × (segmentsAfter said segments ≡ segments)
       refused (answers g) e = absurd (not-both (sym e))
-      refused (refuses n b) e = (refl, refl)
+      refused (refusal why) e = (refl, refl)
 
   -- An accepted call answers how many records and segments were gathered, and leaves their words over the fronts of the two tables, in
   -- which there is room for them.

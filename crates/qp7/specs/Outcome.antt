@@ -6,7 +6,7 @@ use mathlib.Core.List.{List, [], _∷_}
 use lib.ListN.{length, getD}
 use lib.Dec.{leb}
 use Rattle.tables.specs.Entries.{inTurn, fronted}
-use Rattle.refusals.specs.Said.{Said, answers, refuses, refusal, demand, onward}
+use Rattle.refusals.specs.Said.{Said, answers, refusal, demand, onward}
 use Rattle.qp7.specs.declared.Segment.{Segment}
 use Rattle.qp7.specs.declared.Totals.{Totals}
 use Rattle.qp7.specs.declared.Demuxed.{Demuxed}
@@ -49,11 +49,11 @@ answered said = onward said (λ g. answers (totalsOf g))
 -- the tables hold their words from the front on, and what lies past them is as it was
 abbrev pub recordsAfter : Said Gathered → List ℕ → List ℕ
 recordsAfter (answers g) records = fronted (recordWords g) records
-recordsAfter (refuses number beside) records = records
+recordsAfter (refusal why) records = records
 
 abbrev pub segmentsAfter : Said Gathered → List ℕ → List ℕ
 segmentsAfter (answers g) segments = fronted (segmentWords g) segments
-segmentsAfter (refuses number beside) segments = segments
+segmentsAfter (refusal why) segments = segments
 
 -- the code's answer, read so
 abbrev pub demuxedSays : Demuxed → Said Totals

@@ -5,11 +5,10 @@ use mathlib.Core.Path.{_≡_, refl, sym, ap, _∙_, subst}
 use mathlib.Core.Bool.{Bool, true, false}
 use native.Mathlib.Omega.{arith}
 use Rattle.refusals.specs.declared.Refusal.{Refusal}
-use Rattle.refusals.specs.Numbers.{numbered}
-use Rattle.refusals.specs.Said.{Said, demand, answers, refuses, onward}
+use Rattle.refusals.specs.Said.{Said, demand, answers, refuses, onward, refusal}
 
 -- a call that refuses does not answer
-pub not-both : {A : Type 0} {a : A} {number beside : ℕ} → refuses number beside ≡ answers a → ⊥
+pub not-both : {A : Type 0} {a : A} {why : Refusal} → refusal why ≡ answers a → ⊥
 not-both e = let z : _≡_ {A = ℕ} 0 1 = cc in omega arith
 
 -- what holds of an answer holds of any that is said to be the same
@@ -24,9 +23,9 @@ passed false number beside rest e = absurd (not-both e)
 
 -- a call answers or refuses: what a proof by cases goes by
 pub by-said : {A X : Type 0} (said : Said A) → ((a : A) → said ≡ answers a → X)
-    → ((number beside : ℕ) → said ≡ refuses number beside → X) → X
+    → ((why : Refusal) → said ≡ refusal why → X) → X
 by-said (answers a) answered refused = answered a refl
-by-said (refuses number beside) answered refused = refused number beside refl
+by-said (refusal why) answered refused = refused why refl
 
 -- where what an enum's value says can be read back, two values that say the same are the same
 pub only-one : {E A : Type 0} (says : E → Said A) (read : Said A → E) → ((x : E) → read (says x) ≡ x)
@@ -39,15 +38,15 @@ pub asked-of : {A : Type 0} (said : Said A) (test : A → Bool) (number : ℕ) (
 asked-of (answers x) test number beside a e =
     let p = passed (test x) number (beside x) (answers x) e in
     (p .1, for-the-answer (λ y. test y ≡ true) (p .1) (p .0))
-asked-of (refuses n b) test number beside a e = absurd (not-both e)
+asked-of (refusal why) test number beside a e = absurd (not-both e)
 
 -- an enum's value read from what it says: by its case for answers and its case for refusals
 abbrev pub readFrom : {A E : Type 0} → (A → E) → (Refusal → E) → Said A → E
 readFrom answer refuse (answers a) = answer a
-readFrom answer refuse (refuses number beside) = refuse (numbered number beside)
+readFrom answer refuse (refusal why) = refuse why
 
 -- what was answered in the end was first answered, and then gone on with
 pub went-on : {A B : Type 0} {b : B} (said : Said A) (rest : A → Said B) → onward said rest ≡ answers b
     → (a : A) × (said ≡ answers a) × (rest a ≡ answers b)
 went-on (answers a) rest e = (a, refl, e)
-went-on (refuses number beside) rest e = absurd (not-both e)
+went-on (refusal why) rest e = absurd (not-both e)

@@ -1,16 +1,17 @@
--- What a call says: its answer, or a refusal's number with the number beside it. Contracts of calls that may refuse speak of this,
--- and a call's enum is read as such by a definition of its own. Assumes nothing.
+-- What a call says: its answer, or a refusal. Contracts of calls that may refuse speak of this, and a call's enum is read as such by a
+-- definition of its own. Assumes nothing.
 use Prim.Native.Nat.{ℕ}
 use mathlib.Core.Bool.{Bool, true, false}
 use Rattle.refusals.specs.declared.Refusal.{Refusal}
+use Rattle.refusals.specs.Numbers.{numbered}
 
 pub data Said (A : Type 0) : Type 0 where
   answers : A → Said A
-  refuses : ℕ → ℕ → Said A
+  refusal : Refusal → Said A
 
--- a refusal says its two numbers
-abbrev pub refusal : {A : Type 0} → Refusal → Said A
-refusal why = refuses (why .number) (why .beside)
+-- a refusal by its number and the number beside it
+abbrev pub refuses : {A : Type 0} → ℕ → ℕ → Said A
+refuses number beside = refusal (numbered number beside)
 
 -- go on where the test holds, and refuse with this number and the one beside it where it does not
 abbrev pub demand : {A : Type 0} → Bool → ℕ → ℕ → Said A → Said A
@@ -20,4 +21,4 @@ demand false number beside rest = refuses number beside
 -- go on with an answer, and pass a refusal on
 abbrev pub onward : {A B : Type 0} → Said A → (A → Said B) → Said B
 onward (answers a) rest = rest a
-onward (refuses number beside) rest = refuses number beside
+onward (refusal why) rest = refusal why

@@ -6,7 +6,7 @@ use mathlib.Core.List.{List, _∷_}
 use mathlib.Core.Bool.{Bool, true, false}
 use native.Mathlib.Omega.{arith}
 use Rattle.blocks.proofs.Alike.{AlikeFrom, header-alike, announced-alike, stream-alike}
-use Rattle.refusals.specs.Said.{Said, answers, refuses, demand, onward}
+use Rattle.refusals.specs.Said.{Said, answers, demand, onward, refusal}
 use Rattle.detect.specs.declared.Recording.{Recording}
 use Rattle.detect.specs.declared.Kind.the-variants.{Sp}
 use Rattle.detect.specs.Start.{audioStart}
@@ -30,7 +30,7 @@ tested false number rec one other e = refl
 read-alike : (rest : List ℕ) (said : Said Recording) → admission (1 ∷ rest) false true ≡ said
     → readBy (1 ∷ rest) (onward said (ofKind (1 ∷ rest) Sp)) ds2Runs ≡ readBy (3 ∷ rest) (onward said (ofKind (3 ∷ rest) Sp)) ds2Runs
 unfolding audioStart
-read-alike rest (refuses number beside) e = refl
+read-alike rest (refusal why) e = refl
 read-alike rest (answers rec) e =
     let start : 0x600 ≡ rec .start .0 = ap (λ (r : Recording). r .start .0) (ds2-recording (1 ∷ rest) rec e) in
     let alike = after-first 1 3 rest (rec .start .0) (omega (arith, start)) in

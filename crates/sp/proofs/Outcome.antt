@@ -8,8 +8,9 @@ use native.Mathlib.Omega.{arith}
 use borrow.Author.Tests.{le-leb, leb-true}
 use lib.Dec.{leb}
 use Rattle.tables.proofs.Lent.{leaves-over}
+use Rattle.refusals.specs.declared.Refusal.{Refusal}
 use Rattle.refusals.specs.Numbers.{numbered}
-use Rattle.refusals.specs.Said.{Said, answers, refuses}
+use Rattle.refusals.specs.Said.{Said, answers, refuses, refusal}
 use Rattle.refusals.proofs.Said.{passed, went-on, only-one, readFrom, asked-of}
 use Rattle.sp.specs.declared.Run.{Run}
 use Rattle.sp.specs.declared.Demuxed.{Demuxed}
@@ -21,9 +22,9 @@ use Rattle.sp.specs.Outcome.{roomIn, inRoom, answered, demuxedSays, Demu
 use Rattle.sp.specs.Written.{Written, Readable, Ready}
 
 -- a refusal is passed on
-pub passed-on : (number beside : ℕ) (out counts : List ℕ) → Demuxes (refuses number beside) out out counts counts (Refused (numbered number beside))
+pub passed-on : (why : Refusal) (out counts : List ℕ) → Demuxes (refusal why) out out counts counts (Refused why)
 unfolding inRoom
-passed-on number beside out counts = record { answer-is = refl; out-is = refl; counts-are = refl }
+passed-on why out counts = record { answer-is = refl; out-is = refl; counts-are = refl }
 
 module _ (reading : Reading) (out counts : List ℕ) (needed : ℕ) (is : needed ≡ total reading) where
   pub no-room : leb needed (roomIn out counts) ≡ false → Demuxes (answers reading) out out counts counts (Refused (numbered 8 needed))
@@ -57,9 +58,9 @@ is-ready f rec out counts needed readable is most h =
 
 -- what was admitted: a refusal is passed on, and a recording goes on to be read
 module _ (f : List ℕ) (said : Said Recording) (runs : List ℕ → ℕ → ℕ → List Run) (out counts : List ℕ) where
-  pub not-taken : (number beside : ℕ) → refuses number beside ≡ said
-      → Demuxes (readBy f said runs) out out counts counts (Refused (numbered number beside))
-  not-taken number beside e = rw (← e) (passed-on number beside out counts)
+  pub not-taken : (why : Refusal) → refusal why ≡ said
+      → Demuxes (readBy f said runs) out out counts counts (Refused why)
+  not-taken why e = rw (← e) (passed-on why out counts)
 
   pub taken : (rec : Recording) (out′ counts′ : List ℕ) (answer : Demuxed) → answers rec ≡ said
       → Demuxes (answers (readingOf f rec runs)) out out′ counts counts′ answer → Demuxes (readBy f said runs) out out′ counts counts′ answer
@@ -116,6 +117,6 @@ unfolding inRoom
 nothing-to-read r room none = let fits : 0 ≤ room = omega arith in simp (none, le-leb 0 room fits)
 
 -- what is refused before the room is asked
-pub refused-before : (room number beside : ℕ) → answered (inRoom (refuses number beside) room) ≡ refuses number beside
+pub refused-before : (room : ℕ) (why : Refusal) → answered (inRoom (refusal why) room) ≡ refusal why
 unfolding inRoom
-refused-before room number beside = refl
+refused-before room why = refl

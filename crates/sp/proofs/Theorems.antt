@@ -17,7 +17,9 @@ use Rattle.blocks.specs.Headers.{swapOf, firstOf, countOf, announcedIn}
 use Rattle.blocks.proofs.Headers.{announced-none}
 use Rattle.magic.specs.declared.Magic.the-variants.{Dss, Ds2}
 use Rattle.magic.specs.Magics.{magicOf}
-use Rattle.refusals.specs.Said.{Said, answers, refuses}
+use Rattle.refusals.specs.declared.Refusal.{Refusal}
+use Rattle.refusals.specs.Numbers.{numbered}
+use Rattle.refusals.specs.Said.{Said, answers, refuses, refusal}
 use Rattle.refusals.proofs.Said.{not-both}
 use Rattle.detect.specs.declared.Recording.{Recording}
 use Rattle.detect.specs.declared.Kind.the-variants.{Sp}
@@ -47,14 +49,14 @@ use Rattle.sp.proofs.demux_ds2.Reads as ds2-reads
 
 module _ (reading : Said Reading) (out out′ counts counts′ : List ℕ) (answer : Demuxed) (d : Demuxes reading out out′ counts counts′ answer) where
   -- A refused call changes nothing.
-  pub refused-changes-nothing : (number beside : ℕ) → demuxedSays answer ≡ refuses number beside → (out′ ≡ out) × (counts′ ≡ counts)
-  refused-changes-nothing number beside e =
+  pub refused-changes-nothing : (why : Refusal) → demuxedSays answer ≡ refusal why → (out′ ≡ out) × (counts′ ≡ counts)
+  refused-changes-nothing why e =
       let kept = refused (inRoom reading (roomIn out counts)) (sym (d .answer-is) ∙ e) in
       (d .out-is ∙ kept .0, d .counts-are ∙ kept .1)
     where
-      refused : (said : Said Reading) → answered said ≡ refuses number beside → (outAfter said out ≡ out) × (countsAfter said counts ≡ counts)
+      refused : (said : Said Reading) → answered said ≡ refusal why → (outAfter said out ≡ out) × (countsAfter said counts ≡ counts)
       refused (answers r) e = absurd (not-both (sym e))
-      refused (refuses n b) e = (refl, refl)
+      refused (refusal why) e = (refl, refl)
 
   -- An accepted call leaves the reading's packets joined from the front of the output on, and their counts from the front of the table
   -- on. Every other place of both is as it was, and so are the lengths.
@@ -137,7 +139,7 @@ module _ (f : List ℕ) (room : ℕ) (few : length f ≤ limit) where
 
   pub dss-cut : magicOf f ≡ Dss → length f < 512 * getD f 0 0 → answered (inRoom (dssReading f) room) ≡ refuses 3 (512 * getD f 0 0)
   unfolding dssReading
-  dss-cut magic cut = rw (dss-at f magic ∙ cut-header f (512 * getD f 0 0) few cut) (refused-before room 3 (512 * getD f 0 0))
+  dss-cut magic cut = rw (dss-at f magic ∙ cut-header f (512 * getD f 0 0) few cut) (refused-before room (numbered 3 (512 * getD f 0 0)))
 
   -- The same of a DS2 header, which reaches to its audio start: by the first byte, or by the scan.
   pub ds2-bare : magicOf f ≡ Ds2 → length f ≡ audioStart f → answered (inRoom (ds2Reading f) room) ≡ answers 0
@@ -151,7 +153,7 @@ module _ (f : List ℕ) (room : ℕ) (few : length f ≤ limit) where
   pub ds2-cut : magicOf f ≡ Ds2 → length f < audioStart f → answered (inRoom (ds2Reading f) room) ≡ refuses 3 (audioStart f)
   unfolding ds2Reading
   ds2-cut magic cut =
-      rw (← ds2-refused f Sp (sym (ds2-at f magic ∙ cut-header f (audioStart f) few cut))) (refused-before room 3 (audioStart f))
+      rw (← ds2-refused f Sp (sym (ds2-at f magic ∙ cut-header f (audioStart f) few cut))) (refused-before room (numbered 3 (audioStart f)))
 
 -- DS2: packet k is read where a walk from place 0 comes to, by the first block's flag.
 pub ds2-reads-at : (f : List ℕ) (rec : Recording) (k : ℕ) → k < announcedBy f rec

@@ -6,7 +6,7 @@ use mathlib.Core.List.{List}
 use lib.ListN.{length}
 use lib.Dec.{leb}
 use Rattle.tables.specs.Lent.{over}
-use Rattle.refusals.specs.Said.{Said, answers, refuses, refusal, demand, onward}
+use Rattle.refusals.specs.Said.{Said, answers, refusal, demand, onward}
 use Rattle.sp.specs.declared.Demuxed.{Demuxed}
 use Rattle.sp.specs.declared.Demuxed.the-variants.{Packets, Refused}
 use Rattle.sp.specs.Readings.{Reading, total, joinedByteAt, fileCountAt}
@@ -26,11 +26,11 @@ answered said = onward said (λ reading. answers (total reading))
 -- the output holds the packets joined, the table their counts, and what lies past them is as it was
 abbrev pub outAfter : Said Reading → List ℕ → List ℕ
 outAfter (answers reading) out = over (42 * total reading) (joinedByteAt reading) out
-outAfter (refuses number beside) out = out
+outAfter (refusal why) out = out
 
 abbrev pub countsAfter : Said Reading → List ℕ → List ℕ
 countsAfter (answers reading) counts = over (total reading) (fileCountAt reading) counts
-countsAfter (refuses number beside) counts = counts
+countsAfter (refusal why) counts = counts
 
 -- the code's answer, read so
 abbrev pub demuxedSays : Demuxed → Said ℕ

@@ -29,7 +29,7 @@ returns : tie.Need-returns
 returns c =
     let t = c .before .before .before in
     let a = t .before .before .before .args in
-    fill-refused (now (a .file)) (a .place .0) (a .size) (now (a .scratch)) _ _ (told (ap admissionSays (c .before .asked .given .1)) (t .fetch-from .ensures))
+    fill-refused (now (a .file)) (a .place .0) (a .size) (now (a .scratch)) _ (told (ap admissionSays (c .before .asked .given .1)) (t .fetch-from .ensures))
 
 same-length : tie.Need-same-length
 same-length c = search needs

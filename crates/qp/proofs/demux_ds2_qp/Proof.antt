@@ -27,7 +27,7 @@ read-requires c κs =
 returns : tie.Need-returns
 returns c =
     let k = c .before in (
-      not-taken _ _ _ _ (sym (ap admissionSays (k .asked .given .1)) ∙ k .before .before .admit-ds2 .ensures),
+      not-taken _ _ _ (sym (ap admissionSays (k .asked .given .1)) ∙ k .before .before .admit-ds2 .ensures),
       (λ i. omega (arith, k .before .before .before .before .shared-slice-known .given i)),
     )
 

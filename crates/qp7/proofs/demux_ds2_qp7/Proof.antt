@@ -27,7 +27,7 @@ read-requires c κs =
 returns : tie.Need-returns
 returns c =
     let m = c .before in
-    not-taken _ _ _ _ _ (told (ap admissionSays (m .asked .given .1)) (m .before .before .admit-ds2 .ensures))
+    not-taken _ _ _ _ (told (ap admissionSays (m .asked .given .1)) (m .before .before .admit-ds2 .ensures))
 
 same-length : tie.Need-same-length
 same-length c = search needs

@@ -51,7 +51,7 @@ returns c =
     let f = c .before .before .before in
     let l = f .before .before in
     let why = why-is (f .record-at .result) _ _ (c .before .enum-told .given .1) (c .why-not .ensures) (f .record-at .ensures) in (
-      (λ g e. reading-stops _ _ _ _ g _ _ _ (l .loop .k) (l .loop .inv .3 g e) _ _ (f .before .loop-test .taken) why),
+      (λ g e. reading-stops _ _ _ _ g _ _ _ (l .loop .k) (l .loop .inv .3 g e) _ (f .before .loop-test .taken) why),
       (λ w e. absurd (not-both e)),
     )
 

@@ -25,7 +25,7 @@ read-requires c κs =
 returns : tie.Need-returns
 returns c =
     let a = c .before .before .before .before .before .before .args in
-    not-taken (now (a .file)) (admissionSays (a .asked)) (cond (a .dss) dssRuns ds2Runs) _ _ _ _ (sym (ap admissionSays (c .before .asked .given .1)))
+    not-taken (now (a .file)) (admissionSays (a .asked)) (cond (a .dss) dssRuns ds2Runs) _ _ _ (sym (ap admissionSays (c .before .asked .given .1)))
 
 same-length : tie.Need-same-length
 same-length c = search needs
