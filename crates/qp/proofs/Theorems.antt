@@ -14,7 +14,6 @@ use Rattle.tables.specs.Table.{sumOf, Each}
 use Rattle.tables.specs.Entries.{fronted}
 use Rattle.tables.proofs.Table.{each-at, sum-both, sum-same}
 use Rattle.tables.proofs.Entries.{entries-stand, in-turn-same, in-turn-many}
-use Rattle.tables.proofs.Tests.{told}
 use Rattle.blocks.specs.Places.{Whole}
 use Rattle.blocks.specs.Headers.{Bytes}
 use Rattle.blocks.specs.Stream.{joined}
@@ -140,19 +139,14 @@ module _ (f : List ℕ) (r : Reading) (read : qpReading f ≡ answers r) where
         × (handedOutOf (r .segments) + missingFrom (r .segments) ≡ announcedBy f rec)
     none-uncounted =
         let w = lies in
-        let t = totals-announced in
         let rec = w .0 in
         let whole = ds2-admitted f Qp rec (w .1) .2 .whole in
-        let one : answers (t .0) ≡ answers rec = told (t .1) (w .1) in
-        let same : t .0 ≡ rec = cc in
-        let same-announced : announcedBy f (t .0) ≡ announcedBy f rec = ap (announcedBy f) same in (
+        let all : announcedOf (r .segments) ≡ announcedBy f rec = ap announcedOf (sym (w .2)) ∙ totals-add-up f (rec .start .0) (rec .blocks) in (
           rec,
           w .1,
           in-turn-many (Lies (506 * rec .blocks)) (λ s. cut (s .frames) (bytesOf f rec s)) (λ s. handedOut (s .long) (s .frames))
               (λ s l. cut-many (s .frames) (bytesOf f rec s) ∙ ap (λ (x : ℕ). handedOut x (s .frames)) (bytes-long rec s whole l)) (r .segments) (w .3),
-          sum-both (λ s. handedOut (s .long) (s .frames)) (λ s. missingOf (s .long) (s .frames)) (λ s. s .frames) (λ s. handed-and-missing (s .long) (s .frames)) (r .segments)
-              ∙ t .2
-              ∙ same-announced,
+          sum-both (λ s. handedOut (s .long) (s .frames)) (λ s. missingOf (s .long) (s .frames)) (λ s. s .frames) (λ s. handed-and-missing (s .long) (s .frames)) (r .segments) ∙ all,
         )
 
     -- How many that is, by the segments' lengths: for each its length by 56, rounded up; and one is short for each whose length 56 does not
