@@ -1,28 +1,29 @@
 -- The ways of a frame's request, and what holds where a frame can be fetched.
 -- Assumes nothing.
 use Prim.Native.Nat.{ℕ, _+_, _*_, _-_, _%_, _≤_, _<_, _^_}
-use mathlib.Core.Path.{_≡_, refl, ap, _∙_}
+use mathlib.Core.Path.{_≡_, refl, sym, ap, _∙_}
 use mathlib.Core.List.{List}
-use mathlib.Core.Bool.{Bool, true, false, _&&_}
+use mathlib.Core.Bool.{Bool, true, false, cond, _&&_}
 use native.Mathlib.Nat.{sub-zero}
 use native.Mathlib.Omega.{arith}
-use borrow.Author.Tests.{le-leb, lt-leb, leb-true}
-use lib.ListN.{length, take, drop}
-use lib.Dec.{leb}
+use borrow.Author.Tests.{le-leb, lt-leb, leb-true, lt-ltb, le-ltb}
+use lib.ListN.{length, getD, take, drop}
+use lib.Dec.{leb, ltb}
 use Rattle.tables.specs.Lent.{over}
 use Rattle.tables.proofs.Lent.{over-long}
 use Rattle.tables.proofs.Parts.{part-is}
 use Rattle.blocks.specs.Places.{fileOf, streamAt}
+use Rattle.blocks.proofs.Places.{stream-in}
 use Rattle.refusals.specs.declared.Refusal.{Refusal}
 use Rattle.refusals.specs.Said.{Said, answers, refuses, demand, refusal}
 use Rattle.refusals.proofs.Said.{passed, went-on}
 use Rattle.detect.specs.declared.Recording.{Recording}
-use Rattle.detect.specs.Admissions.{admission}
+use Rattle.detect.specs.Admissions.{admission, streamIn}
 use Rattle.detect.proofs.Admissions.{sound}
 use Rattle.frames.specs.declared.Fetched.{Fetched}
 use Rattle.frames.specs.declared.Fetched.the-variants.{Refused}
 use Rattle.frames.specs.Fetch.{canFetch, fetchFrom, isInside, inFile, inScratch, standIn, standing, fetchedSays, filledFrom, filled, shownFrom, shown, Fills, Fetchable}
-use Rattle.tables.proofs.Cases.{by-test}
+use Rattle.tables.proofs.Cases.{by-order, by-test}
 
 -- whether a frame can be fetched, test by test
 module _ (blocks q size room : ℕ) where
@@ -167,3 +168,21 @@ module _ (f : List ℕ) (rec : Recording) (q size : ℕ) (scratch : List ℕ) wh
   inside-ends room from c h e =
       let inside : q % 506 + size ≤ 506 = leb-true (q % 506 + size) 506 h in
       omega (arith, c .whole, c .some, c .there)
+
+-- where byte k of a frame stands in the file: k on from its first byte, and past the next block's header if it lies beyond its own block
+byte-stands : (a q k : ℕ) → k < 56 → fileOf a q + k + cond (ltb k (506 - q % 506)) 0 6 ≡ fileOf a (q + k)
+byte-stands a q k small =
+    by-order k (506 - q % 506) (λ l. simp (lt-ltb k (506 - q % 506) l) (omega arith)) (λ l. simp (le-ltb k (506 - q % 506) l) (omega arith))
+
+-- it is a byte of the file, and the stream's
+module _ (f : List ℕ) (rec : Recording) (q size room from k : ℕ) (c : Fetchable f rec q size room) (is : from ≡ fileOf (rec .start .0) q) (h : k < size) where
+  there : from + k + cond (ltb k (506 - q % 506)) 0 6 ≡ fileOf (rec .start .0) (q + k)
+  there = rw is (byte-stands (rec .start .0) q k (omega (arith, h, c .most)))
+
+  pub byte-in-file : from + k + cond (ltb k (506 - q % 506)) 0 6 < length f
+  byte-in-file = omega (arith, there, c .whole, c .there, h)
+
+  pub byte-is : getD f (from + k + cond (ltb k (506 - q % 506)) 0 6) 0 ≡ streamIn f rec (q + k)
+  byte-is =
+      ap (λ (x : ℕ). getD f x 0) there
+      ∙ sym (stream-in f (rec .start .0) (rec .blocks) (q + k) (omega (arith, h, c .there)))

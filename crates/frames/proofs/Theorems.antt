@@ -19,7 +19,7 @@ use Rattle.detect.specs.Admissions.{admission}
 use Rattle.frames.specs.declared.Fetched.{Fetched}
 use Rattle.frames.specs.declared.Fetched.the-variants.{InFile, InScratch, Refused}
 use Rattle.frames.specs.Fetch.{Stand, inFile, inScratch, fetchFrom, isInside, fetchedSays, filled, shown, Fills}
-use Rattle.frames.specs.Cut.{cut, fetchedFrames}
+use Rattle.frames.specs.Cut.{cut, fetchedBytes, fetchedFrames}
 use Rattle.refusals.proofs.Said.{by-said}
 use Rattle.frames.proofs.Fetch.{fetched-from, filled-inside}
 use Rattle.frames.proofs.Shown.{fetched-is, fetched-joined, shown-as, shown-not, shown-long, stand-refuses, filled-either, filled-keeps, filled-past}
@@ -35,12 +35,12 @@ use Rattle.frames.proofs.show.Reads as part-reads
 
 -- Where a frame can be fetched, `fill` and then `show` give the payload stream's bytes from its place on.
 pub fill-then-show : (f : List ℕ) (rec : Recording) (q size : ℕ) (scratch : List ℕ) → fetchFrom f q size (length scratch) ≡ answers rec
-    → shown f q size (filled f q size scratch) ≡ table size (λ k. streamAt f (rec .start .0) (rec .blocks) (q + k))
+    → fetchedBytes f q size scratch ≡ table size (λ k. streamAt f (rec .start .0) (rec .blocks) (q + k))
 fill-then-show f rec q size scratch taken = fetched-is f rec q size scratch taken
 
 -- These are a part of all payloads joined.
 pub fill-then-show-joined : (f : List ℕ) (rec : Recording) (q size : ℕ) (scratch : List ℕ) → fetchFrom f q size (length scratch) ≡ answers rec
-    → shown f q size (filled f q size scratch) ≡ take size (drop q (joined f (rec .start .0) (rec .blocks)))
+    → fetchedBytes f q size scratch ≡ take size (drop q (joined f (rec .start .0) (rec .blocks)))
 fill-then-show-joined f rec q size scratch taken = fetched-joined f rec q size scratch taken
 
 -- Where a frame can be fetched, `show` shows as many bytes as it has, whatever the scratch holds.

@@ -1,6 +1,7 @@
 // Frames of the payload stream: where a block's frames start, the frames of a segment, and a frame's bytes on request.
 // Rests on detect, which says whether the file is taken, and on refusals, blocks and tables.
 use blocks::FilePlace;
+use blocks::HEADER;
 use blocks::PAYLOAD;
 use blocks::StreamPlace;
 use detect::Admission;
@@ -8,7 +9,9 @@ use detect::Recording;
 use refusals::Refusal;
 ghost use mathlib.Core.Path.{_≡_};
 ghost use Prim.Native.Nat.{_+_, _*_, _<_, _≤_, _^_};
+ghost use mathlib.Core.Bool.{cond};
 ghost use lib.ListN.{length};
+ghost use lib.Dec.{ltb};
 ghost use Rattle.tables.specs.Lent.{Leaves};
 ghost use Rattle.blocks.specs.Places.{Whole, fileOf};
 ghost use Rattle.blocks.specs.Headers.{firstOf};
@@ -145,7 +148,14 @@ fn is_inside(place: StreamPlace, size: usize) -> bool
     place.0 % PAYLOAD + size <= PAYLOAD
 }
 
-// Copies a frame's bytes to the scratch's start.
+// The bytes of the next block's header that lie before byte k of a frame that has so many bytes in its own block.
+fn header_before(k: usize, here: usize) -> usize
+    ensures { λ r. ⌜ (r ≡ cond (ltb k here) 0 6) × (r ≤ 6) ⌝ }
+{
+    if k < here { 0 } else { HEADER }
+}
+
+// Copies the bytes of a frame that crosses a block to the scratch's start.
 fn take_frame(
     file: &[u8],
     recording: Recording,
@@ -153,15 +163,17 @@ fn take_frame(
     size: usize,
     scratch: &mut [u8],
 )
-    requires { ⌜ Whole (now file) (recording .start .0) (recording .blocks) × (place .0 + size ≤ 506 * recording .blocks) × (size ≤ length (now scratch)) ⌝ }
+    requires { ⌜ Fetchable (now file) recording (place .0) size (length (now scratch)) ⌝ }
     ensures { λ _. ⌜ Leaves (now (scratch .entry)) 0 size (λ k. streamIn (now (file .entry)) recording (place .0 + k)) (now (scratch .exit)) ⌝ }
 {
     let start = recording.start;
-    let first = place.0;
+    let first = blocks::in_file(start, place);
+    let from = first.0;
+    let here = PAYLOAD - place.0 % PAYLOAD;
     let mut k = 0;
     while k < size {
-        let at = first + k;
-        scratch[k] = blocks::stream_byte(file, start, StreamPlace(at));
+        let at = from + k + header_before(k, here);
+        scratch[k] = file[at];
         k += 1;
     }
 }

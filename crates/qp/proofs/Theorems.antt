@@ -10,7 +10,7 @@ use denote.Ref.{now}
 use lib.ListN.{length, getD, drop, length-take, length-drop}
 use lib.Dec.{eqb}
 use Rattle.tables.specs.Settled.{SettledAs}
-use Rattle.tables.specs.Table.{sumOf, Each}
+use Rattle.tables.specs.Table.{table, sum, sumOf, Each}
 use Rattle.tables.specs.Entries.{fronted}
 use Rattle.tables.proofs.Table.{each-at, sum-both, sum-same}
 use Rattle.tables.proofs.Entries.{entries-stand, in-turn-same, in-turn-many}
@@ -25,9 +25,9 @@ use Rattle.detect.specs.declared.Recording.{Recording}
 use Rattle.detect.specs.declared.Kind.the-variants.{Qp}
 use Rattle.detect.specs.Admissions.{announcedBy, ds2Admission}
 use Rattle.detect.proofs.Admissions.{ds2-admitted}
-use Rattle.frames.specs.Frames.{handedOut, shortAmong, missingOf}
+use Rattle.frames.specs.Frames.{frameSize, handedOut, shortAmong, missingOf}
 use Rattle.frames.specs.Cut.{cut, fetchedFrames}
-use Rattle.frames.proofs.Frames.{handed-and-missing, handed-is, short-is}
+use Rattle.frames.proofs.Frames.{handed-and-missing, handed-is, short-is, sizes-add-up}
 use Rattle.frames.proofs.Cut.{cut-many}
 use Rattle.frames.proofs.Theorems.{frames-are-cut}
 use Rattle.qp.specs.declared.Segment.{Segment}
@@ -35,7 +35,7 @@ use Rattle.qp.specs.declared.Totals.{Totals}
 use Rattle.qp.specs.declared.Demuxed.{Demuxed}
 use Rattle.qp.specs.Segments.{Reading, readingOf, segmentsFrom, qpReading, Lies}
 use Rattle.qp.specs.Outcome.{entryOf, words, inRoom, inTable, totalsOf, answered, tableAfter, demuxedSays, Demuxes}
-use Rattle.qp.specs.Handed.{bytesOf, framesOf, fetchedOf, announcedOf, handedOutOf, shortOf, missingFrom}
+use Rattle.qp.specs.Handed.{bytesOf, framesOf, fetchedOf, announcedOf, handedOutOf, shortOf, missingFrom, bytesIn}
 use Rattle.qp.proofs.Kept.{totals-add-up, all-lie, all-reset}
 use Rattle.qp.proofs.Outcome.{accepted-read, Seen, only-outcome}
 use Rattle.qp.proofs.demux_ds2_qp.Kinds as qp
@@ -149,15 +149,20 @@ module _ (f : List ℕ) (r : Reading) (read : qpReading f ≡ answers r) where
           sum-both (λ s. handedOut (s .long) (s .frames)) (λ s. missingOf (s .long) (s .frames)) (λ s. s .frames) (λ s. handed-and-missing (s .long) (s .frames)) (r .segments) ∙ all,
         )
 
-    -- How many that is, by the segments' lengths: for each its length by 56, rounded up; and one is short for each whose length 56 does not
-    -- divide.
+    -- How many that is, by the segments' lengths: for each its length by 56, rounded up; one is short for each whose length 56 does not
+    -- divide; and they have all the segments' bytes.
     pub counted-by-length : (handedOutOf (r .segments) ≡ sumOf (λ s. (s .long + 55) / 56) (r .segments))
         × (shortOf (r .segments) ≡ sumOf (λ s. cond (eqb (s .long % 56) 0) 0 1) (r .segments))
-    counted-by-length =
-        let w = lies in (
-          sum-same (Lies (506 * w .0 .blocks)) (λ s. handedOut (s .long) (s .frames)) (λ s. (s .long + 55) / 56) (λ s l. handed-is (s .long) (s .frames) (l .announces)) (r .segments) (w .3),
-          sum-same (Lies (506 * w .0 .blocks)) (λ s. shortAmong (s .long) (s .frames)) (λ s. cond (eqb (s .long % 56) 0) 0 1) (λ s l. short-is (s .long) (s .frames) (l .announces)) (r .segments) (w .3),
-        )
+        × (bytesIn (r .segments) ≡ sumOf (λ s. s .long) (r .segments))
+    counted-by-length = (
+      same (λ s. handedOut (s .long) (s .frames)) (λ s. (s .long + 55) / 56) (λ s l. handed-is (s .long) (s .frames) (l .announces)),
+      same (λ s. shortAmong (s .long) (s .frames)) (λ s. cond (eqb (s .long % 56) 0) 0 1) (λ s l. short-is (s .long) (s .frames) (l .announces)),
+      same (λ s. sum (table (s .frames) (frameSize (s .long)))) (λ s. s .long) (λ s l. sizes-add-up (s .long) (s .frames) (l .announces)),
+    )
+      where
+        same : (one other : Segment → ℕ) → ((s : Segment) → Lies (506 * lies .0 .blocks) s → one s ≡ other s)
+            → sumOf one (r .segments) ≡ sumOf other (r .segments)
+        same one other is = sum-same (Lies (506 * lies .0 .blocks)) one other is (r .segments) (lies .3)
 
 -- Two outcomes of `demux_ds2_qp` that its contract allows for the same arguments are equal: the answer and the table. The contract is the
 -- one in the source, as the check reads it.

@@ -3,11 +3,11 @@
 use Prim.Native.Nat.{ℕ}
 use mathlib.Core.List.{List}
 use lib.ListN.{take, drop}
-use Rattle.tables.specs.Table.{sumOf}
+use Rattle.tables.specs.Table.{table, sum, sumOf}
 use Rattle.tables.specs.Entries.{inTurn}
 use Rattle.blocks.specs.Stream.{joined}
 use Rattle.detect.specs.declared.Recording.{Recording}
-use Rattle.frames.specs.Frames.{handedOut, shortAmong, missingOf}
+use Rattle.frames.specs.Frames.{frameSize, handedOut, shortAmong, missingOf}
 use Rattle.frames.specs.Cut.{cut, fetchedFrames}
 use Rattle.qp.specs.declared.Segment.{Segment}
 
@@ -37,3 +37,7 @@ shortOf segments = sumOf (λ segment. shortAmong (segment .long) (segment .frame
 
 abbrev pub missingFrom : List Segment → ℕ
 missingFrom segments = sumOf (λ segment. missingOf (segment .long) (segment .frames)) segments
+
+-- how many bytes the frames have that are handed out
+abbrev pub bytesIn : List Segment → ℕ
+bytesIn segments = sumOf (λ segment. sum (table (segment .frames) (frameSize (segment .long)))) segments

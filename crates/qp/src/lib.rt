@@ -24,7 +24,8 @@ ghost use Rattle.qp.specs.Written.{numbersOf, Near, Holds, Closes, Moves
 // The words of a segment's entry.
 const ENTRY: usize = 4;
 
-// A segment: where it starts, how many bytes it has, how many frames are announced, and 1 if the decoder is to be reset before it.
+// A segment: where it starts, how many bytes it has, how many frames are announced, and 1 if the decoder is to be reset before it. Public
+// for the definitions above.
 pub struct Segment {
     pub start: StreamPlace,
     pub long: usize,

@@ -20,7 +20,7 @@ use Rattle.qp7.specs.Walk.{Gathered, raised, closing, reads, withBlock}
 use Rattle.qp7.specs.Outcome.{entryOf}
 use Rattle.qp7.specs.Written.{numbersOf, numbersAt, Near, RecordsHold, SegmentsHold, ReadsOn, Closes, GoesOn}
 use Rattle.qp7.proofs.Standing.{stands-by}
-use Rattle.qp7.proofs.Closing.{closing-records}
+use Rattle.qp7.proofs.Closing.{closing-records, closes-unwritten}
 use Rattle.qp7.proofs.Reading.{same-segments}
 
 -- the read place of a walk was raised, and nothing else of it changed
@@ -57,7 +57,7 @@ module _ (f : List ℕ) (a n b : ℕ) (g : Gathered) where
             for-the-answer (λ (x : Gathered). RecordsHold (most .records) x d records) (sym to ∙ e) (kept d w);
         segments-written = λ d g′ e w.
             for-the-answer (λ (x : Gathered). SegmentsHold (most .segments) x d segments′) (sym to ∙ e) (c .written d w);
-        untouched = λ p q. (refl, c .untouched q);
+        untouched = λ p q. (refl, closes-unwritten c q);
       }
     where
       to : withBlock f a n b g ≡ answers (raised (506 * (b + 1)) (closing g))

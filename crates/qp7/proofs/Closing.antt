@@ -5,10 +5,11 @@ use mathlib.Core.Path.{_≡_, refl, sym, ap, _∙_, subst}
 use mathlib.Core.List.{List, [], _∷_, _++_}
 use native.Mathlib.Omega.{arith}
 use borrow.Author.Tests.{lt-ltb, le-ltb}
-use lib.ListN.{length, length-append}
+use lib.ListN.{length, getD, length-append}
 use Rattle.tables.specs.Entries.{inTurn, Fronts, Puts}
 use Rattle.tables.proofs.Cases.{by-order}
-use Rattle.tables.proofs.Entries.{in-turn-long, in-turn-more, fronts-more}
+use Rattle.tables.proofs.Entries.{in-turn-long, in-turn-more, fronts-more, fronts-nothing}
+use Rattle.tables.proofs.Lent.{leaves-none, leaves-to}
 use Rattle.qp7.specs.declared.Walk.{Walk}
 use Rattle.qp7.specs.Walk.{Gathered, openSegment, closing}
 use Rattle.qp7.specs.Outcome.{entryOf}
@@ -49,7 +50,6 @@ closes-none most walk segments h g e =
     record {
       walk-is = e ∙ ap numbersOf (sym same);
       written = λ d w. subst (λ (x : Gathered). SegmentsHold most x d segments) (sym same) w;
-      untouched = λ none. refl;
     }
 
 -- the entry of a segment of which the reset is told
@@ -68,7 +68,6 @@ closes-one-at most g segments segments′ reset h is p =
     record {
       walk-is = walk-is ∙ ap numbersOf (sym closed);
       written = written;
-      untouched = λ none. p .left-out (omega (arith, none));
     }
   where
     closed : closing g ≡ closedAt g
@@ -103,3 +102,10 @@ closes-one most walk segments segments′ reset h is p g e =
     w .first < w .records → reset ≡ min 1 (w .segments) → Puts segments (w .segments) most (entryFrom w reset) segments′
     → Closes most g segments segments′ (walkClosed w))
     (sym e) (closes-one-at most g segments segments′ reset) h is p
+
+-- where no entry is to be written, closing a segment changes nothing
+pub closes-unwritten : {most : ℕ} {g : Gathered} {segments segments′ : List ℕ} {r : Walk} → Closes most g segments segments′ r → most ≡ 0
+    → segments′ ≡ segments
+closes-unwritten {most} {g} {segments} c none =
+    fronts-nothing (3 * most) (inTurn entryOf (closing g .closed)) (omega (arith, none))
+    (c .written segments (leaves-to (omega (arith, none)) (leaves-none segments 0 (λ k. getD (inTurn entryOf (g .closed)) k 0))))

@@ -17,7 +17,7 @@ use Rattle.qp7.specs.declared.Walked.{Walked}
 use Rattle.qp7.specs.declared.Walked.the-variants.{At, Refused}
 use Rattle.qp7.specs.Walk.{Gathered, nothing, closing, withBlock, gatheredTo, gatheredFrom}
 use Rattle.qp7.specs.Written.{numbersOf, numbersAt, walkedSays, Near, RecordsHold, SegmentsHold, Closes, GoesOn}
-use Rattle.qp7.proofs.Closing.{closing-records}
+use Rattle.qp7.proofs.Closing.{closing-records, closes-unwritten}
 
 -- one block more
 gathered-more : (f : List ℕ) (a n b : ℕ) → gatheredTo f a n (b + 1) ≡ onward (gatheredTo f a n b) (withBlock f a n b)
@@ -147,7 +147,7 @@ module _ (f : List ℕ) (rec : Recording) (most : Totals) (records segments : Li
               (subst (λ (words : List ℕ). Fronts d (1 * most .records) words records′) (sym (closing-records (so .here))) (so .records-held d w));
           segments-written = λ d g′ e w.
               for-the-answer (λ (x : Gathered). SegmentsHold (most .segments) x d segments″) (sym to ∙ e) (last .written d (so .segments-held d w));
-          untouched = λ p q. (so .untouched p q .0, last .untouched q ∙ so .untouched p q .1);
+          untouched = λ p q. (so .untouched p q .0, closes-unwritten last q ∙ so .untouched p q .1);
         }
       where
         last : Closes (most .segments) (so .here) segments′ segments″ r

@@ -12,7 +12,7 @@ use Rattle.tables.proofs.Entries.{in-turn-long, fronts-none, fronts-begin, fron
 use Rattle.refusals.specs.declared.Refusal.{Refusal}
 use Rattle.refusals.specs.Numbers.{numbered}
 use Rattle.refusals.specs.Said.{Said, answers, refuses, refusal, demand}
-use Rattle.refusals.proofs.Said.{passed, went-on, only-one, for-the-answer, readFrom}
+use Rattle.refusals.proofs.Said.{passed, went-on, only-outcome-of, for-the-answer, readFrom}
 use Rattle.detect.specs.declared.Recording.{Recording}
 use Rattle.detect.specs.declared.Kind.the-variants.{Qp7}
 use Rattle.detect.specs.Admissions.{ds2Admission}
@@ -182,6 +182,4 @@ Seen = Demuxed × List ℕ × List ℕ
 pub only-outcome : {reading : Said Gathered} {records records₁ records₂ segments segments₁ segments₂ : List ℕ} {one other : Demuxed}
     → Demuxes reading records records₁ segments segments₁ one → Demuxes reading records records₂ segments segments₂ other
     → _≡_ {A = Seen} (one, records₁, segments₁) (other, records₂, segments₂)
-only-outcome {reading} {records} {records₁} {records₂} {segments} {segments₁} {segments₂} {one} {other} d e =
-    let answer : one ≡ other = only-one demuxedSays (readFrom Tables Refused) demuxed-back one other _ (d .answer-is) (e .answer-is) in
-    cc (answer, d .records-are, e .records-are, d .segments-are, e .segments-are)
+only-outcome d e = only-outcome-of demuxedSays (readFrom Tables Refused) demuxed-back (d .answer-is) (e .answer-is) (d .records-are) (e .records-are) (d .segments-are) (e .segments-are)

@@ -37,7 +37,7 @@ pub record Near (n b : ℕ) (walk : Walk) : Type 0 where
   pub records-few : walk .records ≤ 255 * b
   pub segments-few : walk .segments ≤ b
 
--- the record table holds the places gathered, as far as `most`; the segment table the entries
+-- the record table holds the places gathered, an entry of one word each, as far as `most`; the segment table the segments' entries
 abbrev pub RecordsHold : ℕ → Gathered → List ℕ → List ℕ → Type 0
 RecordsHold most g records records′ = Fronts records (1 * most) (recordWords g) records′
 
@@ -54,7 +54,6 @@ pub record ReadsOn (s : ℕ → ℕ) (long n most : ℕ) (g : Gathered) (records
 pub record Closes (most : ℕ) (g : Gathered) (segments segments′ : List ℕ) (r : Walk) : Type 0 where
   pub walk-is : r ≡ numbersOf (closing g)
   pub written : (d : List ℕ) → SegmentsHold most g d segments → SegmentsHold most (closing g) d segments′
-  pub untouched : most ≡ 0 → segments′ ≡ segments
 
 -- and for both tables, where the walk goes on from g to what `to` says
 pub record GoesOn (most : Totals) (g : Gathered) (to : Said Gathered) (records records′ segments segments′ : List ℕ) (r : Walked) : Type 0 where

@@ -2,6 +2,7 @@
 -- Assumes nothing.
 use Prim.Native.Nat.{ℕ}
 use mathlib.Core.Path.{_≡_, refl, sym, ap, _∙_, subst}
+use mathlib.Core.List.{List}
 use mathlib.Core.Bool.{Bool, true, false}
 use native.Mathlib.Omega.{arith}
 use Rattle.refusals.specs.declared.Refusal.{Refusal}
@@ -31,6 +32,14 @@ by-said (refusal why) answered refused = refused why refl
 pub only-one : {E A : Type 0} (says : E → Said A) (read : Said A → E) → ((x : E) → read (says x) ≡ x)
     → (x y : E) (said : Said A) → says x ≡ said → says y ≡ said → x ≡ y
 only-one says read back x y said p q = sym (back x) ∙ ap read (p ∙ sym q) ∙ back y
+
+-- and so are two outcomes, which leave two buffers too, where each buffer is settled
+pub only-outcome-of : {E A : Type 0} (says : E → Said A) (read : Said A → E) → ((x : E) → read (says x) ≡ x)
+    → {x y : E} {said : Said A} {a a′ b b′ m n : List ℕ} → says x ≡ said → says y ≡ said → a ≡ m → a′ ≡ m → b ≡ n → b′ ≡ n
+    → _≡_ {A = E × List ℕ × List ℕ} (x, a, b) (y, a′, b′)
+only-outcome-of says read back {x} {y} {said} p q a a′ b b′ =
+    let answer : x ≡ y = only-one says read back x y said p q in
+    cc (answer, a, a′, b, b′)
 
 -- what is answered after a test of the answer itself was answered before, and has passed the test
 pub asked-of : {A : Type 0} (said : Said A) (test : A → Bool) (number : ℕ) (beside : A → ℕ) (a : A)

@@ -11,7 +11,7 @@ use Rattle.tables.proofs.Lent.{leaves-over}
 use Rattle.refusals.specs.declared.Refusal.{Refusal}
 use Rattle.refusals.specs.Numbers.{numbered}
 use Rattle.refusals.specs.Said.{Said, answers, refuses, refusal}
-use Rattle.refusals.proofs.Said.{passed, went-on, only-one, readFrom, asked-of}
+use Rattle.refusals.proofs.Said.{passed, went-on, only-outcome-of, readFrom, asked-of}
 use Rattle.sp.specs.declared.Run.{Run}
 use Rattle.sp.specs.declared.Demuxed.{Demuxed}
 use Rattle.detect.specs.declared.Recording.{Recording}
@@ -101,9 +101,7 @@ Seen = Demuxed × List ℕ × List ℕ
 pub only-outcome : {reading : Said Reading} {out out₁ out₂ counts counts₁ counts₂ : List ℕ} {one other : Demuxed}
     → Demuxes reading out out₁ counts counts₁ one → Demuxes reading out out₂ counts counts₂ other
     → _≡_ {A = Seen} (one, out₁, counts₁) (other, out₂, counts₂)
-only-outcome {reading} {out} {out₁} {out₂} {counts} {counts₁} {counts₂} {one} {other} d e =
-    let answer : one ≡ other = only-one demuxedSays (readFrom Packets Refused) demuxed-back one other _ (d .answer-is) (e .answer-is) in
-    cc (answer, d .out-is, e .out-is, d .counts-are, e .counts-are)
+only-outcome d e = only-outcome-of demuxedSays (readFrom Packets Refused) demuxed-back (d .answer-is) (e .answer-is) (d .out-is) (e .out-is) (d .counts-are) (e .counts-are)
 
 -- the reading of what was admitted is the reading of the file
 pub read-as : (f : List ℕ) (asked said : Said Recording) (runs : List ℕ → ℕ → ℕ → List Run) (out out′ counts counts′ : List ℕ) (answer : Demuxed)
