@@ -61,6 +61,26 @@ impl Refusal {
         }
     }
 
+    // A piece or a strict end comes while the reader drains, or a piece after its end.
+    pub fn ended() -> Self
+        ensures { λ r. ⌜ r ≡ numbered 6 0 ⌝ }
+    {
+        Self {
+            number: 6,
+            beside: 0,
+        }
+    }
+
+    // What is unread would not fit in a hold of so many bytes.
+    pub fn overflow(hold: usize) -> Self
+        ensures { λ r. ⌜ r ≡ numbered 7 hold ⌝ }
+    {
+        Self {
+            number: 7,
+            beside: hold as u64,
+        }
+    }
+
     // The packets or records are so many, and there is room for fewer.
     pub fn room(needed: usize) -> Self
         ensures { λ r. ⌜ r ≡ numbered 8 needed ⌝ }
@@ -81,6 +101,16 @@ impl Refusal {
         }
     }
 
+    // A reader is opened with a kind that there is not.
+    pub fn kind(kind: u64) -> Self
+        ensures { λ r. ⌜ r ≡ numbered 10 kind ⌝ }
+    {
+        Self {
+            number: 10,
+            beside: kind,
+        }
+    }
+
     // A DS2 file of this type is read as another kind than the call's.
     pub fn other_kind(byte: u8) -> Self
         ensures { λ r. ⌜ r ≡ numbered 11 byte ⌝ }
@@ -98,6 +128,25 @@ impl Refusal {
         Self {
             number: 12,
             beside: 0,
+        }
+    }
+    // The end comes inside a block, of which so many bytes are there.
+    pub fn inside(bytes: usize) -> Self
+        ensures { λ r. ⌜ r ≡ numbered 13 bytes ⌝ }
+    {
+        Self {
+            number: 13,
+            beside: bytes as u64,
+        }
+    }
+
+    // So many frames are owed at the end.
+    pub fn owed(frames: usize) -> Self
+        ensures { λ r. ⌜ r ≡ numbered 14 frames ⌝ }
+    {
+        Self {
+            number: 14,
+            beside: frames as u64,
         }
     }
 }

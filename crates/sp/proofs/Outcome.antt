@@ -90,7 +90,7 @@ accepted-read reading out out′ counts counts′ answer d n e =
     (w .0, v .0, many, omega (arith, many), w .1)
 
 -- an answer is read back from what it says
-demuxed-back : (x : Demuxed) → readFrom Packets Refused (demuxedSays x) ≡ x
+pub demuxed-back : (x : Demuxed) → readFrom Packets Refused (demuxedSays x) ≡ x
 demuxed-back (Packets n) = refl
 demuxed-back (Refused why) = refl
 

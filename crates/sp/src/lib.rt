@@ -37,8 +37,8 @@ pub enum Demuxed {
     Refused(Refusal),
 }
 
-// Puts a packet and its count under a number.
-fn put(packet: Packet, number: usize, out: &mut [u8], counts: &mut [u8])
+// For the crates above too. Puts a packet and its count under a number.
+pub fn put(packet: Packet, number: usize, out: &mut [u8], counts: &mut [u8])
     requires room { ⌜ (42 * (number + 1) ≤ length (now out)) × (number < length (now counts)) ⌝ }
     ensures bytes { λ _. ⌜ Leaves (now (out .entry)) (42 * number) 42 (λ i. getD (packet .bytes) i 0) (now (out .exit)) ⌝ }
     ensures count { λ _. ⌜ Leaves (now (counts .entry)) number 1 (λ i. packet .count) (now (counts .exit)) ⌝ }

@@ -17,3 +17,10 @@ SettledAs n ps r Seen see Post =
 -- the whole result is settled: for a call that is lent nothing to write, its whole outcome
 abbrev pub SettledResult : (n : ℕ) (ps : List (PK n)) (r : RK n) → Out n ps r → Type 0
 SettledResult n ps r Post = SettledAs n ps r (λ κs. resT r κs .Denot) (λ κs x s. x) Post
+
+-- the same where the call's own demand holds: for a call that has one
+abbrev pub SettledWhere : (n : ℕ) (ps : List (PK n)) (r : RK n) (Seen : Lfts n → Type 0)
+    → ((κs : Lfts n) → resT r κs .Denot → AtExit (endedOf n ps r) κs → Seen κs) → ((κs : Lfts n) → Dens κs ps → Type 0) → Out n ps r → Type 0
+SettledWhere n ps r Seen see Pre Post =
+    (κs : Lfts n) (a : Dens κs ps) (x y : resT r κs .Denot) (s t : AtExit (endedOf n ps r) κs) → Pre κs a → Post κs a x s → Post κs a y t
+    → see κs x s ≡ see κs y t

@@ -1,0 +1,14 @@
+-- `hold::places::parity` meets its contract: by whether the number is even.
+-- Assumes nothing.
+use borrow.Author.Tests.{eq-eqb, ne-eqb}
+use Rattle.hold.proofs.places.parity.Statement.{statement}
+use Rattle.hold.proofs.places.parity.Tie as tie
+
+returns : tie.Need-returns
+returns c = simp (eq-eqb _ _ (c .if1 .taken))
+
+returns-2 : tie.Need-returns-2
+returns-2 c = simp (ne-eqb _ _ (c .if1 .left))
+
+pub parity-spec : {M : Type 1} → statement M
+parity-spec = tie.close (tie.spec returns returns-2)

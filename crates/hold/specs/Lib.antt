@@ -1,0 +1,7 @@
+-- The definitions of this crate, a file for each idea. They rest on those of the crates below.
+pub mod Leading
+pub mod Ready
+pub mod Held
+pub mod Parts
+pub mod Between
+pub mod Owed

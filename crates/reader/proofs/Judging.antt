@@ -1,0 +1,47 @@
+-- A verdict is an answer, and whether that accepts the call. What is said of a piece, by what was found in its blocks.
+-- Assumes nothing.
+use Prim.Native.Nat.{ℕ, _-_}
+use mathlib.Core.Path.{_≡_, sym, ap, _∙_}
+use mathlib.Core.List.{List}
+use mathlib.Core.Bool.{Bool, true, false}
+use lib.ListN.{length}
+use lib.Dec.{leb}
+use Rattle.blocks.specs.Places.{wholeBlocks}
+use Rattle.refusals.specs.declared.Refusal.{Refusal}
+use Rattle.refusals.specs.Said.{Said, answers, refusal, refuses, demand}
+use Rattle.hold.specs.declared.Standing.{Standing}
+use Rattle.hold.specs.Ready.{ready}
+use Rattle.hold.specs.Held.{fits}
+use Rattle.reader.specs.Joined.{Known, gained, judged, accepts}
+use Rattle.reader.proofs.Sources.{numbers-of}
+
+pub fair : {said is : Said ℕ} {accepted : Bool} → said ≡ is → accepted ≡ accepts is → accepted ≡ accepts said
+fair p q = q ∙ sym (ap accepts p)
+
+pub refused-as : {said wanted : Said ℕ} {why is : Refusal} → said ≡ refusal why → why ≡ is → wanted ≡ refusal is → said ≡ wanted
+refused-as p q w = p ∙ ap refusal q ∙ sym w
+
+pub says-no : {said wanted : Said ℕ} {accepted : Bool} {why is : Refusal} → (said ≡ refusal why) × (accepted ≡ false) → why ≡ is
+    → wanted ≡ refusal is → (said ≡ wanted) × (accepted ≡ accepts said)
+says-no v q w = (refused-as (v .0) q w, fair (v .0) (v .1))
+
+pub says-yes : {said wanted : Said ℕ} {accepted : Bool} {n : ℕ} → (said ≡ answers n) × (accepted ≡ true) → wanted ≡ answers n
+    → (said ≡ wanted) × (accepted ≡ accepts said)
+says-yes v w = (v .0 ∙ sym w, fair (v .0) (v .1))
+
+-- with a piece so many packets are ready
+module _ {dss : Bool} {f partial waiting piece : List ℕ} {a taken : ℕ} {was : Standing}
+    (known : Known dss f a taken was partial waiting piece) {now : ℕ} (now-is : now ≡ ready dss f a (wholeBlocks (length f) a)) where
+  gained-is : now - was .ready ≡ gained dss f a taken
+  gained-is = cc (now-is, numbers-of known .ready-is)
+
+  -- every block fits, so there is to be room for them
+  pub judged-by : fits dss f a (wholeBlocks (length f) a) ≡ true → (needed room : ℕ) → needed ≡ now - was .ready
+      → demand (leb needed room) 8 needed (answers needed) ≡ judged dss f a taken room
+  unfolding judged
+  judged-by fit needed room is = rw (fit, is, gained-is)
+
+pub judged-full : (dss : Bool) (f : List ℕ) (a taken room : ℕ) → fits dss f a (wholeBlocks (length f) a) ≡ false
+    → judged dss f a taken room ≡ refuses 7 12288
+unfolding judged
+judged-full dss f a taken room full = simp full

@@ -1,0 +1,133 @@
+-- What holds of every call of a reader, whatever it is given: what the calls demand of the reader holds again after each, a refused call
+-- changes nothing, and a call has one outcome. And what is answered at an end and after it, and in a header. Assumes nothing.
+use Prim.Native.Nat.{ℕ, _<_, min}
+use mathlib.Core.Path.{_≡_, refl, sym, _∙_}
+use mathlib.Core.List.{List, _++_}
+use mathlib.Core.Bool.{true, false}
+use native.Mathlib.Omega.{arith}
+use borrow.Author.Tests.{lt-leb, ne-eqb}
+use lib.ListN.{length}
+use Rattle.blocks.specs.Headers.{Bytes}
+use Rattle.refusals.specs.declared.Refusal.{Refusal}
+use Rattle.refusals.specs.Said.{answers, refuses, refusal}
+use Rattle.sp.specs.Outcome.{demuxedSays}
+use Rattle.hold.proofs.Leading.{never}
+use Rattle.hold.proofs.Front.{dss-fits}
+use Rattle.reader.specs.declared.Reader.{Reader}
+use Rattle.reader.specs.declared.Step.{Step}
+use Rattle.reader.specs.State.{State, isDss, startOf, blocksIn, opened, unopened, owed, readerOf, headerDone, Sound, Reached}
+use Rattle.reader.specs.Calls.{afterOpen, pieceSaid, afterPiece, strictBy, strictSaid, afterStrict, lenientSaid, afterLenient, Opens}
+use Rattle.reader.specs.History.{PieceCall, StrictCall, LenientCall, OwedCall}
+use Rattle.reader.proofs.Laws.{at-state, steps-by, refused-by, reached-by, only-step, only-outcome, seven-given-by, header-full, bytes-joined, ends-empty}
+
+-- The calls demand one thing, a reader that open or an earlier call gave back. Open, refused too, gives one back.
+pub reached-opened : (kind : ℕ) {step : Step} → Opens kind step → Reached (step .reader)
+reached-opened kind opens = reached-by opens
+
+-- A refused open gives back an ended reader of kind 0.
+pub refused-open-ends : (kind : ℕ) {step : Step} → Opens kind step → (why : Refusal) → demuxedSays (step .answer) ≡ refusal why
+    → step .reader ≡ readerOf unopened
+refused-open-ends kind opens why e = steps-by (afterOpen kind) e opens .reader-is
+
+-- Two outcomes of open are the same: answer and reader.
+pub only-opened : (kind : ℕ) {step step′ : Step} → Opens kind step → Opens kind step′ → step ≡ step′
+only-opened kind one other = only-step one other
+
+module _ {reader : Reader} {piece out out′ counts counts′ : List ℕ} {step : Step} (known : Reached reader)
+    (call : PieceCall reader piece out out′ counts counts′ step) where
+  -- A piece, accepted or refused, gives such a reader back.
+  pub reached-piece : Reached (step .reader)
+  reached-piece = reached-by (at-state known call .steps)
+
+  -- A refused piece changes nothing: the reader, the output and the counts are as they were, and so the reader goes on as if the piece had
+  -- not been given.
+  pub refused-piece-keeps : (why : Refusal) → demuxedSays (step .answer) ≡ refusal why
+      → (step .reader ≡ reader) × (out′ ≡ out) × (counts′ ≡ counts)
+  refused-piece-keeps why e =
+      let v = at-state known call in
+      let kept = refused-by (afterPiece (known .state) piece) e (v .steps) (v .hands) in
+      (kept .0 ∙ sym (known .is), kept .1, kept .2)
+
+  -- Two outcomes of a piece are the same: answer, next reader, output and counts.
+  pub only-piece : {out″ counts″ : List ℕ} {step′ : Step} → PieceCall reader piece out out″ counts counts″ step′
+      → (step ≡ step′) × (out′ ≡ out″) × (counts′ ≡ counts″)
+  only-piece other =
+      let v = at-state known call in
+      let w = at-state known other in
+      only-outcome (v .steps) (w .steps) (v .hands) (w .hands)
+
+module _ {reader : Reader} {step : Step} (known : Reached reader) (call : StrictCall reader step) where
+  -- The same three of the strict end, which is lent nothing.
+  pub reached-strict : Reached (step .reader)
+  reached-strict = reached-by (at-state known call)
+
+  pub refused-strict-keeps : (why : Refusal) → demuxedSays (step .answer) ≡ refusal why → step .reader ≡ reader
+  refused-strict-keeps why e =
+      steps-by (afterStrict (known .state)) e (at-state known call) .reader-is ∙ sym (known .is)
+
+  pub only-strict : {step′ : Step} → StrictCall reader step′ → step ≡ step′
+  only-strict other = only-step (at-state known call) (at-state known other)
+
+module _ {reader : Reader} {out out′ counts counts′ : List ℕ} {step : Step} (known : Reached reader)
+    (call : LenientCall reader out out′ counts counts′ step) where
+  -- And of the lenient end.
+  pub reached-lenient : Reached (step .reader)
+  reached-lenient = reached-by (at-state known call .steps)
+
+  pub refused-lenient-keeps : (why : Refusal) → demuxedSays (step .answer) ≡ refusal why
+      → (step .reader ≡ reader) × (out′ ≡ out) × (counts′ ≡ counts)
+  refused-lenient-keeps why e =
+      let v = at-state known call in
+      let kept = refused-by (afterLenient (known .state)) e (v .steps) (v .hands) in
+      (kept .0 ∙ sym (known .is), kept .1, kept .2)
+
+  pub only-lenient : {out″ counts″ : List ℕ} {step′ : Step} → LenientCall reader out out″ counts counts″ step′
+      → (step ≡ step′) × (out′ ≡ out″) × (counts′ ≡ counts″)
+  only-lenient other =
+      let v = at-state known call in
+      let w = at-state known other in
+      only-outcome (v .steps) (w .steps) (v .hands) (w .hands)
+
+-- Two answers to how many frames are owed are the same.
+pub only-owed : {reader : Reader} {m n : ℕ} → Reached reader → OwedCall reader m → OwedCall reader n → m ≡ n
+only-owed known one other = at-state known one ∙ sym (at-state known other)
+
+module _ (s : State) (piece : List ℕ) (room : ℕ) where
+  -- A reader that has ended answers 0 packets to either end, and refuses every piece by 6.
+  pub ended-answers-none : Sound s → s .phase ≡ 2
+      → (strictSaid s ≡ answers 0) × (lenientSaid s room ≡ answers 0) × (pieceSaid s piece room ≡ refuses 6 0)
+  unfolding strictBy lenientSaid pieceSaid
+  ended-answers-none sound ended =
+      let full = sound .header (λ e. omega arith) in
+      let none : min room 0 ≡ 0 = omega arith in
+      (simp ended, simp (full, sound .ended ended, none), simp ended)
+
+  -- One that drains refuses pieces and the strict end by 6, and the lenient end hands out what is owed as far as there is room.
+  pub draining-goes-on : Sound s → s .phase ≡ 1
+      → (pieceSaid s piece room ≡ refuses 6 0) × (strictSaid s ≡ refuses 6 0) × (lenientSaid s room ≡ answers (min room (owed s)))
+  unfolding strictBy lenientSaid pieceSaid
+  draining-goes-on sound draining = (simp draining, simp draining, simp (sound .header (λ e. omega arith)))
+
+  -- Refusal 7 is never given for DSS.
+  pub never-seven : Sound s → isDss (s .kind) ≡ true → Bytes piece → pieceSaid s piece room ≡ refuses 7 12288 → ⊥
+  never-seven sound dss bytes e =
+      let f = s .bytes ++ piece in
+      let all-bytes = bytes-joined (s .bytes) piece (sound .bytes-are) bytes in
+      never (rw dss (dss-fits f (startOf (s .kind)) (blocksIn (s .kind) f) all-bytes)) (seven-given-by s piece room e)
+
+-- An end before any input succeeds, with no packets, and none is owed.
+pub no-input-ends : (kind room : ℕ) → (strictSaid (opened kind) ≡ answers 0) × (lenientSaid (opened kind) room ≡ answers 0) × (owed (opened kind) ≡ 0)
+no-input-ends kind room = ends-empty (opened kind) room refl (omega arith) refl
+
+module _ (s : State) (room : ℕ) (taking : s .phase ≡ 0) where
+  -- So does an end at the header's last byte: a bare header is an empty recording.
+  pub bare-header-empty : length (s .bytes) ≡ startOf (s .kind) → (strictSaid s ≡ answers 0) × (lenientSaid s room ≡ answers 0) × (owed s ≡ 0)
+  bare-header-empty bare = ends-empty s room taking (omega arith) (header-full (startOf (s .kind)) (length (s .bytes)) (omega arith))
+
+  -- Either end inside the header is refused by 3, with the audio start beside it.
+  pub cut-header-refused : 0 < length (s .bytes) → length (s .bytes) < startOf (s .kind)
+      → (strictSaid s ≡ refuses 3 (startOf (s .kind))) × (lenientSaid s room ≡ refuses 3 (startOf (s .kind)))
+  unfolding strictBy lenientSaid
+  cut-header-refused some cut =
+      let cut-off : headerDone s ≡ false = simp (ne-eqb (length (s .bytes)) 0 (λ e. omega arith), lt-leb _ _ cut) in
+      (simp (taking, cut-off), simp cut-off)

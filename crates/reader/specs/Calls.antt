@@ -1,0 +1,104 @@
+-- What a reader's calls say, the state that they hand back, and what they leave in lent memory, for every state and all that is lent.
+-- Assumes nothing.
+use Prim.Native.Nat.{ℕ, _+_, _*_, _-_, _%_, min}
+use mathlib.Core.Path.{_≡_}
+use mathlib.Core.List.{List, _++_}
+use mathlib.Core.Bool.{not, cond}
+use lib.ListN.{length}
+use lib.Dec.{eqb, leb}
+use Rattle.tables.specs.Lent.{over}
+use Rattle.blocks.specs.Places.{limit}
+use Rattle.refusals.specs.Said.{Said, answers, refusal, demand}
+use Rattle.sp.specs.Readings.{Reading, joinedByteAt, fileCountAt}
+use Rattle.sp.specs.Outcome.{roomIn, demuxedSays}
+use Rattle.reader.specs.declared.Step.{Step}
+use Rattle.reader.specs.State.{State, opened, unopened, isKind, startOf, readingBy, readyBy, fitsBy, handed, owed, readerOf, headerFull, headerDone, Sound}
+
+-- open: a kind that there is
+unfoldable pub openSaid : ℕ → Said ℕ
+openSaid kind = demand (isKind kind) 10 kind (answers 0)
+
+abbrev pub afterOpen : ℕ → Said ℕ → State
+afterOpen kind (answers n) = opened kind
+afterOpen kind (refusal why) = unopened
+
+-- a piece: the reader takes pieces, the bytes joined are within the limit, every block fits, and there is room for all that the piece
+-- brings out
+abbrev pub brings : State → List ℕ → ℕ
+brings s piece = readyBy (s .kind) (s .bytes ++ piece) - readyBy (s .kind) (s .bytes)
+
+unfoldable pub pieceSaid : State → List ℕ → ℕ → Said ℕ
+pieceSaid s piece room =
+    demand (eqb (s .phase) 0) 6 0
+    (demand (leb (length (s .bytes) + length piece) limit) 2 limit
+    (demand (fitsBy (s .kind) (s .bytes ++ piece)) 7 12288
+    (demand (leb (brings s piece) room) 8 (brings s piece) (answers (brings s piece)))))
+
+abbrev pub afterPiece : State → List ℕ → Said ℕ → State
+afterPiece s piece (answers n) = record { kind = s .kind; bytes = s .bytes ++ piece; drained = s .drained; phase = s .phase }
+afterPiece s piece (refusal why) = s
+
+-- the strict end: not while draining; nothing more once ended; else the header is full, the last block whole, and nothing is owed
+abbrev pub inBlock : ℕ → ℕ → ℕ
+inBlock a long = (long - a) % 512
+
+unfoldable pub strictBy : ℕ → ℕ → ℕ → ℕ → Said ℕ
+strictBy phase a long owed =
+    demand (not (eqb phase 1)) 6 0
+    (cond (eqb phase 2) (answers 0)
+    (demand (headerFull a long) 3 a
+    (demand (eqb (inBlock a long) 0) 13 (inBlock a long)
+    (demand (eqb owed 0) 14 owed (answers 0)))))
+
+abbrev pub strictSaid : State → Said ℕ
+strictSaid s = strictBy (s .phase) (startOf (s .kind)) (length (s .bytes)) (owed s)
+
+abbrev pub afterStrict : State → Said ℕ → State
+afterStrict s (answers n) = record { kind = s .kind; bytes = s .bytes; drained = s .drained; phase = 2 }
+afterStrict s (refusal why) = s
+
+-- the lenient end: the header is full, and as many of the owed packets come as there is room for
+unfoldable pub lenientSaid : State → ℕ → Said ℕ
+lenientSaid s room = demand (headerDone s) 3 (startOf (s .kind)) (answers (min room (owed s)))
+
+-- it drains while some are owed, and has ended when none is
+abbrev pub afterLenient : State → Said ℕ → State
+afterLenient s (answers n) =
+    record { kind = s .kind; bytes = s .bytes; drained = s .drained + n; phase = cond (eqb n (owed s)) 2 1 }
+afterLenient s (refusal why) = s
+
+-- what is left in the output and in the count table: that many packets of a reading from its packet k on, in front. A refused call
+-- leaves both as they were
+abbrev pub outAfter : Reading → ℕ → Said ℕ → List ℕ → List ℕ
+outAfter reading k (answers n) out = over (42 * n) (λ i. joinedByteAt reading (42 * k + i)) out
+outAfter reading k (refusal why) out = out
+
+abbrev pub countsAfter : Reading → ℕ → Said ℕ → List ℕ → List ℕ
+countsAfter reading k (answers n) counts = over n (λ i. fileCountAt reading (k + i)) counts
+countsAfter reading k (refusal why) counts = counts
+
+-- a call's answer and next state
+pub record Steps (said : Said ℕ) (next : State) (step : Step) : Type 0 where
+  pub answer-is : demuxedSays (step .answer) ≡ said
+  pub reader-is : step .reader ≡ readerOf next
+  pub sound : Sound next
+
+-- what a call leaves in the lent buffers
+pub record Hands (reading : Reading) (k : ℕ) (said : Said ℕ) (out out′ counts counts′ : List ℕ) : Type 0 where
+  pub out-is : out′ ≡ outAfter reading k said out
+  pub counts-are : counts′ ≡ countsAfter reading k said counts
+
+-- the outcomes of the calls, at a state
+abbrev pub Opens : ℕ → Step → Type 0
+Opens kind step = Steps (openSaid kind) (afterOpen kind (openSaid kind)) step
+
+pub record Takes (s : State) (piece out out′ counts counts′ : List ℕ) (step : Step) : Type 0 where
+  pub steps : Steps (pieceSaid s piece (roomIn out counts)) (afterPiece s piece (pieceSaid s piece (roomIn out counts))) step
+  pub hands : Hands (readingBy (s .kind) (s .bytes ++ piece)) (handed s) (pieceSaid s piece (roomIn out counts)) out out′ counts counts′
+
+abbrev pub EndsStrictly : State → Step → Type 0
+EndsStrictly s step = Steps (strictSaid s) (afterStrict s (strictSaid s)) step
+
+pub record EndsLeniently (s : State) (out out′ counts counts′ : List ℕ) (step : Step) : Type 0 where
+  pub steps : Steps (lenientSaid s (roomIn out counts)) (afterLenient s (lenientSaid s (roomIn out counts))) step
+  pub hands : Hands (readingBy (s .kind) (s .bytes)) (handed s) (lenientSaid s (roomIn out counts)) out out′ counts counts′

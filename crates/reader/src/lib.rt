@@ -1,0 +1,348 @@
+// Reading in pieces: a Reader takes an SP recording's bytes in any cut, hands out packets as they become ready, and ends strictly or
+// leniently. What `Ds2SpStreamDemuxer` and `DssSpStreamDemuxer` do. Rests on hold, for a block more and for packets that are owed, on
+// sp, for the answer's form, on refusals, blocks and tables.
+use blocks::BLOCK;
+use blocks::FilePlace;
+use blocks::StreamPlace;
+use hold::Standing;
+use packets::PACKET;
+use refusals::Refusal;
+use sp::Demuxed;
+ghost use mathlib.Core.Path.{_≡_};
+ghost use mathlib.Core.Bool.{true, false, cond};
+ghost use Prim.Native.Nat.{_+_, _-_, _/_, _%_, _≤_, _<_, _^_, min};
+ghost use lib.Dec.{eqb, leb};
+ghost use Rattle.refusals.specs.Said.{answers, refusal, demand};
+ghost use Rattle.sp.specs.Outcome.{demuxedSays};
+ghost use Rattle.reader.specs.State.{State, isKind, startOf, owed, readerOf, Sound, Reached};
+ghost use Rattle.reader.specs.Calls.{strictBy, Opens, Takes, EndsStrictly, EndsLeniently};
+ghost use Rattle.reader.specs.Joined.{accepts};
+
+// What a piece would bring, with nothing written.
+mod survey;
+
+// The blocks of a piece.
+mod absorb;
+
+// A reader by value: each call takes it and hands the next one back. All fields are numbers or arrays of them; `kind` is 0 for DS2 and 2
+// or 3 for DSS, `phase` 0 while it takes pieces, 1 while it drains, 2 when it has ended.
+#[repr(C)]
+pub struct Reader {
+    kind: u64,
+    phase: u64,
+    taken: usize,
+    announced: usize,
+    ready: usize,
+    drained: usize,
+    base: usize,
+    first: u8,
+    carry: u8,
+    hold: [u8; 12288],
+    partial: [u8; 512],
+    waiting: [u8; 66],
+}
+
+// A call's answer, and the reader to go on with.
+pub struct Step {
+    pub answer: Demuxed,
+    pub reader: Reader,
+}
+
+fn is_kind(kind: u64) -> bool
+    ensures { λ r. ⌜ r ≡ isKind kind ⌝ }
+{
+    if kind == 0 {
+        return true;
+    }
+    if kind == 2 {
+        return true;
+    }
+    kind == 3
+}
+
+// How far a lies past b.
+fn past(a: usize, b: usize) -> usize
+    ensures { λ r. ⌜ r ≡ a - b ⌝ }
+{
+    if a < b {
+        return 0;
+    }
+    a - b
+}
+
+// Where the audio of a kind starts.
+fn start_of(kind: u64) -> FilePlace
+    requires { ⌜ isKind kind ≡ true ⌝ }
+    ensures { λ r. ⌜ (r .0 ≡ startOf kind) × (r .0 ≤ 1536) ⌝ }
+{
+    if kind == 2 {
+        return FilePlace(1024);
+    }
+    FilePlace(1536)
+}
+
+// What was found in a piece's blocks: whether all fit, what all blocks announce, the first block's byte 0. Public for the definitions
+// only, as Verdict is.
+pub struct Surveyed {
+    fits: bool,
+    announced: usize,
+    first: u8,
+}
+
+// What is answered, and whether that accepts the call.
+pub struct Verdict {
+    accepted: bool,
+    answer: Demuxed,
+}
+
+fn accepted(n: usize) -> Verdict
+    ensures { λ r. ⌜ (demuxedSays (r .answer) ≡ answers n) × (r .accepted ≡ true) ⌝ }
+{
+    Verdict {
+        accepted: true,
+        answer: Demuxed::Packets(n),
+    }
+}
+
+fn refused(why: Refusal) -> Verdict
+    ensures { λ r. ⌜ (demuxedSays (r .answer) ≡ refusal why) × (r .accepted ≡ false) ⌝ }
+{
+    Verdict {
+        accepted: false,
+        answer: Demuxed::Refused(why),
+    }
+}
+
+fn chosen(test: bool, one: u64, other: u64) -> u64
+    ensures { λ r. ⌜ r ≡ cond test one other ⌝ }
+{
+    if test { one } else { other }
+}
+
+fn opening(known: bool, kind: u64) -> Demuxed
+    ensures { λ r. ⌜ demuxedSays r ≡ demand known 10 kind (answers 0) ⌝ }
+{
+    if known {
+        return Demuxed::Packets(0);
+    }
+    Demuxed::Refused(Refusal::kind(kind))
+}
+
+// How many of the packets of an output and a count table of these lengths there is room for.
+fn room_for(out: usize, counts: usize) -> usize
+    ensures { λ r. ⌜ r ≡ min (out / 42) counts ⌝ }
+{
+    tables::lesser(out / PACKET, counts)
+}
+
+// How many bytes are taken with a piece, if it is accepted.
+fn taken_with(accepted: bool, taken: usize, piece: usize) -> usize
+    requires { ⌜ taken + piece < 2 ^ 64 ⌝ }
+    ensures { λ r. ⌜ r ≡ cond accepted (taken + piece) taken ⌝ }
+{
+    if accepted {
+        return taken + piece;
+    }
+    taken
+}
+
+// No input yet, or a full header.
+fn header_done(taken: usize, a: FilePlace) -> bool
+    ensures { λ r. ⌜ r ≡ cond (eqb taken 0) true (leb (a .0) taken) ⌝ }
+{
+    if taken == 0 {
+        return true;
+    }
+    a.0 <= taken
+}
+
+// What the strict end says, by the phase and so many bytes taken and frames owed.
+fn strict(phase: u64, a: FilePlace, taken: usize, owed: usize) -> Verdict
+    ensures { λ r. ⌜ (demuxedSays (r .answer) ≡ strictBy phase (a .0) taken owed) × (r .accepted ≡ accepts (demuxedSays (r .answer))) ⌝ }
+{
+    if phase == 1 {
+        return refused(Refusal::ended());
+    }
+    if phase == 2 {
+        return accepted(0);
+    }
+    if !header_done(taken, a) {
+        return refused(Refusal::header(a));
+    }
+    let inside = past(taken, a.0) % BLOCK;
+    if inside != 0 {
+        return refused(Refusal::inside(inside));
+    }
+    if owed != 0 {
+        return refused(Refusal::owed(owed));
+    }
+    accepted(0)
+}
+
+fn lenient_answer(done: bool, a: FilePlace, some: usize) -> Demuxed
+    ensures { λ r. ⌜ demuxedSays r ≡ demand done 3 (a .0) (answers some) ⌝ }
+{
+    if done {
+        return Demuxed::Packets(some);
+    }
+    Demuxed::Refused(Refusal::header(a))
+}
+
+// The phase after a lenient end that hands out so many of the packets owed.
+fn end_phase(done: bool, phase: u64, some: usize, owed: usize) -> u64
+    ensures { λ r. ⌜ r ≡ cond done (cond (eqb some owed) 2 1) phase ⌝ }
+{
+    if !done {
+        return phase;
+    }
+    if some == owed { 2 } else { 1 }
+}
+
+impl Reader {
+    // A fresh reader of a kind; or refusal 10 with that kind, and an ended reader of kind 0.
+    pub fn open(kind: u64) -> Step
+        ensures { λ r. ⌜ Opens kind r ⌝ }
+    {
+        let known = is_kind(kind);
+        let answer = opening(known, kind);
+        let reader = Reader {
+            kind: chosen(known, kind, 0),
+            phase: chosen(known, 0, 2),
+            taken: 0,
+            announced: 0,
+            ready: 0,
+            drained: 0,
+            base: 0,
+            first: 0,
+            carry: 0,
+            hold: [0u8; 12288],
+            partial: [0u8; 512],
+            waiting: [0u8; 66],
+        };
+        Step { answer, reader }
+    }
+    // A whole piece, or a refusal with everything as it was: 6, 2, 7 or 8.
+    pub fn piece(mut self, piece: &[u8], out: &mut [u8], counts: &mut [u8]) -> Step
+        requires { ⌜ Reached self ⌝ }
+        ensures { λ r. ⌜ ((s : State) → self ≡ readerOf s → Sound s → Takes s (now (piece .entry)) (now (out .entry)) (now (out .exit)) (now (counts .entry)) (now (counts .exit)) r) ⌝ }
+    {
+        let dss = self.kind != 0;
+        let a = start_of(self.kind);
+        let taken = self.taken;
+        let was = Standing {
+            announced: self.announced,
+            ready: self.ready,
+            base: StreamPlace(self.base),
+            first: self.first,
+            carry: self.carry,
+        };
+        let mut partial = self.partial;
+        let mut waiting = self.waiting;
+        let room = room_for(out.len(), counts.len());
+        let verdict = survey::decide(
+            dss,
+            a,
+            self.phase,
+            taken,
+            was,
+            &partial,
+            &waiting,
+            piece,
+            room,
+        );
+        let accepted = verdict.accepted;
+        let now = absorb::absorb(
+            accepted,
+            dss,
+            a,
+            taken,
+            was,
+            &mut self.hold,
+            &mut partial,
+            &mut waiting,
+            piece,
+            out,
+            counts,
+        );
+        self.partial = partial;
+        self.waiting = waiting;
+        self.taken = taken_with(accepted, taken, piece.len());
+        self.announced = now.announced;
+        self.ready = now.ready;
+        self.base = now.base.0;
+        self.first = now.first;
+        self.carry = now.carry;
+        let answer = verdict.answer;
+        Step {
+            answer,
+            reader: self,
+        }
+    }
+    // Ends the reader if it has a full header, whole blocks only and no frame owed; or refuses: 6, 3, 13 or 14. An ended reader answers
+    // that there are no packets.
+    pub fn strict_end(mut self) -> Step
+        requires { ⌜ Reached self ⌝ }
+        ensures { λ r. ⌜ ((s : State) → self ≡ readerOf s → Sound s → EndsStrictly s r) ⌝ }
+    {
+        let a = start_of(self.kind);
+        let owed = self.announced - self.ready - self.drained;
+        let verdict = strict(self.phase, a, self.taken, owed);
+        self.phase = chosen(verdict.accepted, 2, self.phase);
+        let answer = verdict.answer;
+        Step {
+            answer,
+            reader: self,
+        }
+    }
+
+    // Drops a block that is not whole and hands out the packets that are owed, zeros past the stream's end, as many as there is room
+    // for; or refuses by 3. While some are owed the reader drains, and then it has ended.
+    pub fn lenient_end(mut self, out: &mut [u8], counts: &mut [u8]) -> Step
+        requires { ⌜ Reached self ⌝ }
+        ensures { λ r. ⌜ ((s : State) → self ≡ readerOf s → Sound s → EndsLeniently s (now (out .entry)) (now (out .exit)) (now (counts .entry)) (now (counts .exit)) r) ⌝ }
+    {
+        let dss = self.kind != 0;
+        let a = start_of(self.kind);
+        let taken = self.taken;
+        let was = Standing {
+            announced: self.announced,
+            ready: self.ready,
+            base: StreamPlace(self.base),
+            first: self.first,
+            carry: self.carry,
+        };
+        let drained = self.drained;
+        let owed = was.announced - was.ready - drained;
+        let some = tables::lesser(room_for(out.len(), counts.len()), owed);
+        let blocks = blocks::whole_blocks(taken, a);
+        let waiting = self.waiting;
+        let carry = hold::write_owed(
+            dss,
+            was,
+            blocks,
+            drained,
+            some,
+            &self.hold,
+            &waiting,
+            out,
+            counts,
+        );
+        self.carry = carry;
+        self.drained = drained + some;
+        let done = header_done(taken, a);
+        self.phase = end_phase(done, self.phase, some, owed);
+        let answer = lenient_answer(done, a, some);
+        Step {
+            answer,
+            reader: self,
+        }
+    }
+
+    // How many frames are announced and not handed out: what a lenient end with ample room would hand out.
+    pub fn owed(self) -> usize
+        requires { ⌜ Reached self ⌝ }
+        ensures { λ r. ⌜ ((s : State) → self ≡ readerOf s → Sound s → r ≡ owed s) ⌝ }
+    {
+        self.announced - self.ready - self.drained
+    }
+}
