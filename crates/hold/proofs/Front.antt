@@ -48,9 +48,6 @@ module _ (dss : Bool) (f : List ℕ) (a : ℕ) where
       eq-eqb (fitting dss f a n) n
       (leads-only (fitting-leads n) (record { within = omega arith; before = each; stops = λ h. absurd (omega arith) }))
 
-  pub fits-less : (m n : ℕ) → fits dss f a n ≡ true → m ≤ n → fits dss f a m ≡ true
-  fits-less m n all less = each-fits m (λ b h. fits-each n all b (omega arith))
-
 -- no DSS block finds the hold full
 pub dss-fits : (f : List ℕ) (a n : ℕ) → Bytes f → fits true f a n ≡ true
 dss-fits f a n bytes = each-fits true f a n (λ b h. dss-block-fits f a b bytes)

@@ -1,7 +1,7 @@
 -- What a longer file keeps. Its first n blocks are the same: so are all numbers of them and what is held. And of more blocks the packets
 -- that were ready are the same, under the same numbers. Assumes nothing.
 use Prim.Native.Nat.{ℕ, zero, suc, _+_, _*_, _/_, _%_, _≤_, _<_}
-use mathlib.Core.Path.{_≡_, refl, sym, ap, _∙_, subst, subst₂, fun-ext}
+use mathlib.Core.Path.{_≡_, refl, sym, ap, ap₂, _∙_, subst, subst₂, fun-ext}
 use mathlib.Core.List.{List, [], _++_, append-nil}
 use mathlib.Core.Bool.{Bool, true, false, cond}
 use native.Mathlib.Numerals.{add-one}
@@ -17,10 +17,9 @@ use Rattle.blocks.specs.Headers.{flagOf, swapOf, announcedIn}
 use Rattle.blocks.proofs.Headers.{header-kept, announced-kept, announced-upto}
 use Rattle.blocks.proofs.Places.{stream-past}
 use Rattle.blocks.proofs.Stream.{longer-agrees}
-use Rattle.packets.specs.Packet.{readSize, isWhole}
+use Rattle.packets.specs.Packet.{readSize}
 use Rattle.packets.specs.Walk.{Walk, reach, step}
 use Rattle.packets.proofs.Longer.{same-carry, same-read}
-use Rattle.packets.proofs.Packets.{whole-says, whole-if}
 use Rattle.sp.specs.ReadLists.{dssRun}
 use Rattle.sp.specs.Readings.{Reading, total, walkAt, CompleteAt, joinedByteAt}
 use Rattle.sp.specs.Longer.{SameAt}
@@ -107,8 +106,8 @@ module _ (f p : List ℕ) (a n m : ℕ) (whole : Whole f a n) (more : n ≤ m) w
       leads-further (announced-grows n m more (omega arith))
       (λ i h e.
       let kept = reads-kept _ _ (extends false f p a n m whole more) i (omega (arith, total-is false f a n)) in
-      let complete = whole-says (506 * n) _ _ e in
-      whole-if (506 * m) _ _
+      let complete = leb-true _ (506 * n) e in
+      le-leb _ (506 * m)
       (subst₂ (λ (q : ℕ) (swap : Bool). q + readSize swap ≤ 506 * m) (kept .0) (kept .1) (omega (arith, complete))))
       (ds2-leads f a n) (ds2-leads (f ++ p) a m)
 
@@ -128,8 +127,7 @@ module _ (f p : List ℕ) (a n : ℕ) (whole : Whole f a n) where
       leads-same
       (λ i h.
       let kept = reads-kept _ _ (extends false f p a n n whole (omega arith)) i (omega (arith, total-is false f a n)) in
-      ap (λ (swap : Bool). isWhole (506 * n) swap (walkAt (readingIn false f a n) i .place)) (kept .1)
-      ∙ ap (isWhole (506 * n) (walkAt (readingIn false (f ++ p) a n) i .swap)) (kept .0))
+      ap₂ (λ (q : ℕ) (swap : Bool). leb (q + readSize swap) (506 * n)) (kept .0) (kept .1))
       (ds2-leads f a n) (rw (announced-kept f p a n whole) (ds2-leads (f ++ p) a n))
 
   pub base-kept : (dss : Bool) → baseAt dss f a n ≡ baseAt dss (f ++ p) a n

@@ -6,22 +6,21 @@ use mathlib.Core.List.{List, []}
 use mathlib.Core.Bool.{Bool, true, false}
 use native.Mathlib.Numerals.{add-one}
 use native.Mathlib.Omega.{arith}
-use borrow.Author.Tests.{leb-true}
+use borrow.Author.Tests.{le-leb, leb-true, leb-false}
 use Rattle.tables.proofs.Cases.{by-order, by-test}
 use Rattle.blocks.specs.Headers.{swapOf, countOf, announcedIn}
 use Rattle.blocks.proofs.Headers.{announced-none, announced-more, announced-upto}
 use Rattle.packets.specs.Packet.{readSize}
 use Rattle.packets.specs.Walk.{Walk, steps, reach, Complete}
-use Rattle.packets.proofs.Packets.{whole-says, whole-if, short-says}
 use Rattle.packets.proofs.Walk.{steps-more, steps-place, steps-upto}
 use Rattle.sp.specs.declared.Run.{Run}
 use Rattle.sp.specs.Runs.{runBegin}
 use Rattle.sp.specs.ReadLists.{dssRun, ds2Run}
-use Rattle.sp.specs.Readings.{total, walkAt, wholeAt, CompleteAt}
+use Rattle.sp.specs.Readings.{total, walkAt, CompleteAt}
 use Rattle.sp.proofs.Runs.{stands-first}
 use Rattle.sp.proofs.ReadLists.{packets-announced, dss-stands}
 use Rattle.sp.proofs.Longer.{complete-before}
-use Rattle.hold.specs.Ready.{readingIn, endsAt, readIn, front, ready}
+use Rattle.hold.specs.Ready.{readingIn, endsAt, isComplete, readIn, front, ready}
 use Rattle.hold.specs.Held.{baseAt}
 use Rattle.hold.proofs.Leading.{Leads, leading-leads, never, leads-only}
 
@@ -86,9 +85,9 @@ module _ (f : List ℕ) (a n : ℕ) where
   )
 
   -- DS2: the walk goes on until a read is not complete
-  pub ds2-leads : Leads (wholeAt (readingIn false f a n)) (announcedIn f a n) (ready false f a n)
+  pub ds2-leads : Leads (isComplete (readingIn false f a n)) (announcedIn f a n) (ready false f a n)
   unfolding ready
-  ds2-leads = leading-leads (wholeAt (readingIn false f a n)) (announcedIn f a n)
+  ds2-leads = leading-leads (isComplete (readingIn false f a n)) (announcedIn f a n)
 
   -- where a packet's read ends
   ds2-next : (k : ℕ) → k < announcedIn f a n
@@ -110,17 +109,17 @@ module _ (f : List ℕ) (a n : ℕ) where
         within = omega arith;
         before = λ i h.
             let in-place = ds2-next i (omega arith) in
-            whole-if (506 * n) _ _ (omega (arith, in-place, reach-upto (swapOf f a 0) (i + 1) r (omega arith)));
+            le-leb _ (506 * n) (omega (arith, in-place, reach-upto (swapOf f a 0) (i + 1) r (omega arith)));
         stops = λ h.
             let least : min (announcedIn f a n) r ≡ r = omega arith in
             rw least
-            (by-test (wholeAt (readingIn false f a n) r)
-            (λ whole. absurd (omega (arith, whole-says (506 * n) _ _ whole, ds2-next r (omega arith))))
-            (λ short. short));
+            (by-test (isComplete (readingIn false f a n) r)
+            (λ complete. absurd (omega (arith, leb-true _ (506 * n) complete, ds2-next r (omega arith))))
+            (λ cut. cut));
       })
 
   pub ready-complete : (dss : Bool) (k : ℕ) → k < ready dss f a n → CompleteAt (readingIn dss f a n) k
-  ready-complete false k h = whole-says (506 * n) _ _ (ds2-leads .before k h)
+  ready-complete false k h = leb-true _ (506 * n) (ds2-leads .before k h)
   ready-complete true k h =
       let s = readingIn true f a n .stream in
       let v = in-block f a (front f a n) k (omega (arith, dss-ready)) in
@@ -148,9 +147,9 @@ module _ (f : List ℕ) (a n : ℕ) where
     (λ complete.
         by-order k (ready false f a n) (λ l. l)
         (λ l.
-        let short = short-says (506 * n) _ _ (ds2-leads f a n .stops (omega arith)) in
+        let cut = leb-false _ (506 * n) (ds2-leads f a n .stops (omega arith)) in
         let whole = complete-before (readingIn false f a n .stream) (506 * n) (ds2Run f a n) (ready false f a n) k l h complete in
-        absurd (omega (arith, short, whole)))),
+        absurd (omega (arith, cut, whole)))),
   )
 
 -- where the hold begins, for either

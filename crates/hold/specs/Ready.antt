@@ -5,10 +5,11 @@ use mathlib.Core.List.{List}
 use mathlib.Core.Bool.{Bool, false, cond}
 use lib.Dec.{leb}
 use Rattle.blocks.specs.Headers.{announcedIn}
+use Rattle.packets.specs.Packet.{readSize}
 use Rattle.packets.specs.Walk.{reach}
 use Rattle.sp.specs.declared.Run.{Run}
 use Rattle.sp.specs.ReadLists.{dssRun, dssRuns, ds2Runs}
-use Rattle.sp.specs.Readings.{Reading, wholeAt, readingOf}
+use Rattle.sp.specs.Readings.{Reading, walkAt, readingOf}
 use Rattle.hold.specs.Leading.{leading}
 
 -- the reading of those blocks, whatever the file's magic and type are
@@ -18,6 +19,10 @@ readingIn dss f a n = readingOf f (record { start = record { 0 = a }; blocks = n
 -- where a run's reads end; for a run of no packets that is where they would begin
 abbrev pub endsAt : Run → ℕ
 endsAt run = run .start .0 + reach (run .swap) (run .count)
+
+-- DS2: the read of packet k of a reading is complete
+abbrev pub isComplete : Reading → ℕ → Bool
+isComplete reading k = leb (walkAt reading k .place + readSize (walkAt reading k .swap)) (reading .long)
 
 -- DSS: block b's reads are all complete in n blocks
 abbrev pub readIn : List ℕ → ℕ → ℕ → ℕ → Bool
@@ -30,4 +35,4 @@ front f a n = leading (readIn f a n) n
 -- how many packets are ready
 unfoldable pub ready : Bool → List ℕ → ℕ → ℕ → ℕ
 ready dss f a n =
-    cond dss (announcedIn f a (front f a n)) (leading (wholeAt (readingIn false f a n)) (announcedIn f a n))
+    cond dss (announcedIn f a (front f a n)) (leading (isComplete (readingIn false f a n)) (announcedIn f a n))

@@ -1,5 +1,5 @@
 // Bytes into the hold and out of it: a payload is put behind what is held, and what has been read is dropped in front.
-// Every function here is for the crates above. Rests on nothing but blocks' sizes.
+// For the rest of this crate and for the crates above. Rests on nothing but blocks' sizes.
 use blocks::PAYLOAD;
 ghost use mathlib.Core.Path.{_≡_};
 ghost use Prim.Native.Nat.{_+_, _≤_, _<_};

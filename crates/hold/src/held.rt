@@ -1,4 +1,4 @@
-// Packets from the hold, which has the stream's bytes from a base on. Every function here is for the crates above.
+// Packets from the hold, which has the stream's bytes from a base on. For the rest of this crate.
 // Rests on packets, for a packet from bytes that lie together, on sp, for runs and where a packet is put, and on tables.
 use blocks::StreamPlace;
 use packets::Packet;

@@ -1,5 +1,5 @@
 // What is held of a recording between its blocks, and a block more: the packets that become ready by it are handed out.
-// Rests on packets and sp, for packets and runs, on blocks and on tables. Every function here is for the crates above.
+// Rests on packets and sp, for packets and runs, on blocks and on tables. What is public here is for the crates above.
 use blocks::HEADER;
 use blocks::PAYLOAD;
 use blocks::StreamPlace;
@@ -22,7 +22,7 @@ pub mod places;
 pub mod bytes;
 
 // Packets from the hold.
-pub mod held;
+mod held;
 
 // DSS blocks that wait.
 pub mod waiting;
@@ -56,7 +56,7 @@ fn first_byte(b: usize, known: u8, here: u8) -> u8
 }
 
 // Hands out m packets of a DS2 walk from packet k on, when n blocks are there; gives back what is carried on.
-pub fn write_walk(
+fn write_walk(
     hold: &[u8; 12288],
     base: StreamPlace,
     first: u8,

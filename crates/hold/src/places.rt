@@ -1,5 +1,5 @@
 // The reads of a run with no walk: how far so many packets go, by which parity the next is read, and how many reads end at or before a
-// place. Every function here is for the crates above. Rests on sp, for runs.
+// place. For the rest of this crate and for the crates above. Rests on sp, for runs.
 use blocks::StreamPlace;
 use sp::Run;
 ghost use mathlib.Core.Path.{_≡_};

@@ -1,5 +1,5 @@
 // DSS blocks that wait: bytes 0 to 2 of their headers, three for each, the front block's first. A block leaves when all its reads are
-// complete, and no block leaves before an earlier one. Every function here is for the crates above. Rests on packets, for where a
+// complete, and no block leaves before an earlier one. For the rest of this crate and for the crates above. Rests on packets, for where a
 // block starts, on sp, for runs, and on tables.
 use crate::Released;
 use blocks::PAYLOAD;

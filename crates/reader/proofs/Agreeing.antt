@@ -63,16 +63,16 @@ unfolding audioStart
 not-scanned f below = simp (ne-eqb (getD f 0 0) 7 (λ e. omega arith))
 
 -- so the whole reading is that of the bytes joined
-pub agrees-is : (kind : ℕ) (f : List ℕ) → Agrees kind f → wholeReading kind f ≡ answers (readingBy kind f)
-agrees-is kind f v =
+pub agrees-is : (kind : ℕ) (f : List ℕ) → length f ≤ limit → Agrees kind f → wholeReading kind f ≡ answers (readingBy kind f)
+agrees-is kind f small v =
     by-test (isDss kind)
     (λ dss.
     let start = dss-start kind dss in
-    rw dss (dss-is f (startOf kind) (v .small) (v .full) (v .dss dss .0) (omega (arith, start, v .dss dss .1))))
+    rw dss (dss-is f (startOf kind) small (v .full) (v .dss dss .0) (omega (arith, start, v .dss dss .1))))
     (λ ds2.
     let start = ds2-start kind ds2 in
     rw ds2
-    (ds2-is f (startOf kind) (v .small) (v .full) (v .ds2 ds2 .0) (not-scanned f (v .ds2 ds2 .1) ∙ sym start)
+    (ds2-is f (startOf kind) small (v .full) (v .ds2 ds2 .0) (not-scanned f (v .ds2 ds2 .1) ∙ sym start)
     (omega (arith, ap (formatType f) start, v .ds2 ds2 .2))))
 
 -- what a whole call that answers leaves in front of its lent buffers

@@ -1,6 +1,6 @@
 -- DSS: the packets of a block are ready together, exactly when every read of that block and of those before it is complete.
 -- Assumes nothing.
-use Prim.Native.Nat.{ℕ, _+_, _*_, _-_, _≤_, _<_}
+use Prim.Native.Nat.{ℕ, _+_, _*_, _-_, _<_}
 use mathlib.Core.Path.{_≡_, sym, ap, _∙_, subst}
 use mathlib.Core.List.{List}
 use mathlib.Core.Bool.{true}
@@ -14,15 +14,12 @@ use Rattle.packets.proofs.Start.{start-most}
 use Rattle.packets.proofs.Walk.{steps-none, steps-more, steps-place}
 use Rattle.sp.specs.Runs.{runBegin}
 use Rattle.sp.specs.ReadLists.{dssRun, dssRuns}
-use Rattle.sp.specs.Readings.{Reading, CompleteAt}
+use Rattle.sp.specs.Readings.{CompleteAt}
 use Rattle.sp.proofs.Runs.{carryPast}
 use Rattle.sp.proofs.ReadLists.{dss-stands}
 use Rattle.hold.specs.Ready.{readingIn, endsAt, readIn, front, ready}
 use Rattle.hold.proofs.Ready.{dss-ready, dss-exactly, ready-complete}
-
--- every packet of block b and of the blocks before it is complete in a reading
-abbrev pub CompleteUpto : Reading → List ℕ → ℕ → ℕ → Type 0
-CompleteUpto reading f a b = (c j : ℕ) → c ≤ b → j < countOf f a c → CompleteAt reading (announcedIn f a c + j)
+use Rattle.reader.specs.History.{CompleteUpto}
 
 module _ (f : List ℕ) (a n : ℕ) where
   -- a block whose packets are all complete has been read; a silent block ends where it starts

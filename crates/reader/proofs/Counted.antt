@@ -48,7 +48,7 @@ module _ (kind : ℕ) (opening : Step) (opens : Opens kind opening) (known : isK
       omega
       (arith, v .many, ready-within (isDss kind) f (startOf kind) (blocksIn kind f), total-is (isDss kind) f (startOf kind) (blocksIn kind f)) in
       let first = part-first reading 0 n (total reading) among in
-      (reading, agrees-is kind f agrees, among, v .part .packets-are ∙ sym (first .packets-are), v .part .entries-are ∙ sym (first .entries-are))
+      (reading, agrees-is kind f (v .sound .small) agrees, among, v .part .packets-are ∙ sym (first .packets-are), v .part .entries-are ∙ sym (first .entries-are))
 
 -- What is owed is what a lenient end with room for all of it hands out, unless it is refused.
 pub owed-is-handed : {reader : Reader} {m : ℕ} {out out′ counts counts′ : List ℕ} {step : Step} → Reached reader → OwedCall reader m

@@ -1,13 +1,12 @@
 -- What reading in pieces is equal to: what came out of a fresh reader is what is ready in the bytes joined, with what lenient ends hand
 -- out it is the whole reading, and however the input was cut it is the same. Assumes nothing.
 use Prim.Native.Nat.{ℕ, _+_, _*_, _≤_, _<_}
-use mathlib.Core.Path.{_≡_, sym, ap, _∙_, subst}
+use mathlib.Core.Path.{_≡_, refl, sym, ap, _∙_, subst}
 use mathlib.Core.List.{List, _++_}
 use mathlib.Core.Bool.{true, false}
 use native.Mathlib.Omega.{arith}
-use borrow.Author.Tests.{le-leb}
+use borrow.Author.Tests.{le-leb, lt-leb, leb-false}
 use lib.ListN.{length, take}
-use lib.Dec.{leb}
 use Rattle.blocks.specs.Places.{limit}
 use Rattle.blocks.specs.Headers.{countOf, announcedIn}
 use Rattle.refusals.specs.Said.{answers, refuses}
@@ -20,14 +19,24 @@ use Rattle.reader.specs.declared.Reader.{Reader}
 use Rattle.reader.specs.declared.Step.{Step}
 use Rattle.reader.specs.State.{State, isKind, isDss, startOf, blocksIn, announcedBy, readingBy, readyBy, fitsBy, opened}
 use Rattle.reader.specs.Calls.{pieceSaid, Opens}
-use Rattle.reader.specs.History.{OwedCall, packetsFrom, countsFrom, joined, Fed, Drained}
+use Rattle.reader.specs.History.{PieceCall, OwedCall, packetsFrom, countsFrom, CompleteUpto, joined, Fed, Drained}
 use Rattle.reader.specs.Agreement.{wholeReading, Agrees}
 use Rattle.reader.proofs.Parts.{Part, part-joined}
 use Rattle.reader.proofs.Laws.{seven-given-by}
 use Rattle.reader.proofs.Folding.{holding, Came, opened-fed, drew-owed, drained-is}
 use Rattle.reader.proofs.Agreeing.{agrees-is, whole-hands}
 use Rattle.reader.proofs.Fitting.{fits-same}
-use Rattle.reader.proofs.Blockwise.{CompleteUpto, block-exactly}
+use Rattle.reader.proofs.Blockwise.{block-exactly}
+
+-- A reader that takes pieces refuses one with which it is within the limit by 7 exactly when some block of the bytes joined does not fit.
+pub seven-given : (s : State) (piece : List ℕ) (room : ℕ) → s .phase ≡ 0 → length (s .bytes) + length piece ≤ limit
+    → (pieceSaid s piece room ≡ refuses 7 12288 → fitsBy (s .kind) (s .bytes ++ piece) ≡ false)
+    × (fitsBy (s .kind) (s .bytes ++ piece) ≡ false → pieceSaid s piece room ≡ refuses 7 12288)
+unfolding pieceSaid
+seven-given s piece room taking small = (
+  seven-given-by s piece room,
+  (λ full. simp (taking, le-leb (length (s .bytes) + length piece) limit small, full)),
+)
 
 module _ (kind : ℕ) (opening : Step) (opens : Opens kind opening) (known : isKind kind ≡ true) {pieces : List (List ℕ)} {n : ℕ}
     {packets entries : List ℕ} {last : Reader} (fed : Fed (opening .reader) pieces n packets entries last) where
@@ -53,6 +62,24 @@ module _ (kind : ℕ) (opening : Step) (opens : Opens kind opening) (known : isK
       × (CompleteUpto (readingBy kind (joined pieces)) (joined pieces) (startOf kind) b → announcedIn (joined pieces) (startOf kind) b + i < n)
   dss-out-exactly dss b i there h =
       rw (came .many, dss) (block-exactly (joined pieces) (startOf kind) (blocksIn kind (joined pieces)) b i there h)
+
+  -- A piece that follows, within the limit, is refused by 7 exactly when more blocks are there with it than fit, one after another, of any
+  -- longer input that begins so: however the input is cut, 7 comes at the same block.
+  pub seven-at-the-same-block : {piece out out′ counts counts′ : List ℕ} {step : Step} → PieceCall last piece out out′ counts counts′ step
+      → length (joined pieces) + length piece ≤ limit → (rest : List ℕ)
+      → (demuxedSays (step .answer) ≡ refuses 7 12288
+      → fitting (isDss kind) (joined pieces ++ piece ++ rest) (startOf kind) (blocksIn kind (joined pieces ++ piece ++ rest)) < blocksIn kind (joined pieces ++ piece))
+      × (fitting (isDss kind) (joined pieces ++ piece ++ rest) (startOf kind) (blocksIn kind (joined pieces ++ piece ++ rest)) < blocksIn kind (joined pieces ++ piece)
+      → demuxedSays (step .answer) ≡ refuses 7 12288)
+  seven-at-the-same-block {piece = piece} {step = step} call small rest =
+      let f = joined pieces ++ piece in
+      let s = holding (opened kind) (joined pieces) in
+      let said = call s (came .reader-is) (came .sound) .steps .answer-is in
+      let given = seven-given s piece _ refl small in
+      let same = fits-same (isDss kind) f rest (startOf kind) in (
+        (λ e. leb-false _ _ (sym same ∙ given .0 (sym said ∙ e))),
+        (λ full. said ∙ given .1 (same ∙ lt-leb _ _ full)),
+      )
 
   module _ {rooms : List ℕ} {n′ : ℕ} {packets′ entries′ : List ℕ} {end : Reader} (drained : Drained last rooms n′ packets′ entries′ end)
       (none-owed : OwedCall end 0) where
@@ -84,7 +111,7 @@ module _ (kind : ℕ) (opening : Step) (opens : Opens kind opening) (known : isK
         × (entries ++ entries′ ≡ countsFrom reading 0 (total reading))
     pieces-are-whole agrees =
         let v = pieces-make-reading in
-        (readingBy kind (joined pieces), agrees-is kind (joined pieces) agrees, v .0, v .1, v .2)
+        (readingBy kind (joined pieces), agrees-is kind (joined pieces) (came .sound .small) agrees, v .0, v .1, v .2)
 
     -- And it is what the whole call, where it has room, leaves in front of its output and of its count table.
     pub pieces-are-the-whole-call : Agrees kind (joined pieces) → {out out′ counts counts′ : List ℕ} {answer : Demuxed} {t : ℕ}
@@ -92,7 +119,7 @@ module _ (kind : ℕ) (opening : Step) (opens : Opens kind opening) (known : isK
         → (n + n′ ≡ t) × (packets ++ packets′ ≡ take (42 * t) out′) × (entries ++ entries′ ≡ take t counts′)
     pieces-are-the-whole-call agrees {out′ = out′} {counts′ = counts′} whole said =
         let v = pieces-make-reading in
-        let w = whole-hands (agrees-is kind (joined pieces) agrees) whole said in (
+        let w = whole-hands (agrees-is kind (joined pieces) (came .sound .small) agrees) whole said in (
           v .0 ∙ w .0,
           v .1 ∙ sym (w .1 .packets-are) ∙ ap (λ (m : ℕ). take (42 * m) out′) (w .0),
           v .2 ∙ sym (w .1 .entries-are) ∙ ap (λ (m : ℕ). take m counts′) (w .0),
@@ -112,19 +139,3 @@ cut-otherwise kind opening opening′ opens opens′ known {n = n} {n′ = n′}
       v .part .entries-are ∙ ap (countsFrom _ 0) many ∙ sym (w .part .entries-are),
       v .reader-is ∙ sym (w .reader-is),
     )
-
--- A reader that takes pieces refuses one with which it is within the limit by 7 exactly when some block of the bytes joined does not fit.
-pub seven-given : (s : State) (piece : List ℕ) (room : ℕ) → s .phase ≡ 0 → length (s .bytes) + length piece ≤ limit
-    → (pieceSaid s piece room ≡ refuses 7 12288 → fitsBy (s .kind) (s .bytes ++ piece) ≡ false)
-    × (fitsBy (s .kind) (s .bytes ++ piece) ≡ false → pieceSaid s piece room ≡ refuses 7 12288)
-unfolding pieceSaid
-seven-given s piece room taking small = (
-  seven-given-by s piece room,
-  (λ full. simp (taking, le-leb (length (s .bytes) + length piece) limit small, full)),
-)
-
--- And whether the blocks received fit is whether there are no more of them than a number that the whole input has: so however a longer
--- input is cut, 7 is given at the same block.
-pub seven-at-the-same-block : (kind : ℕ) (f rest : List ℕ)
-    → fitsBy kind f ≡ leb (blocksIn kind f) (fitting (isDss kind) (f ++ rest) (startOf kind) (blocksIn kind (f ++ rest)))
-seven-at-the-same-block kind f rest = fits-same (isDss kind) f rest (startOf kind)

@@ -1,11 +1,13 @@
 -- A verdict is an answer, and whether that accepts the call. What is said of a piece, by what was found in its blocks.
 -- Assumes nothing.
-use Prim.Native.Nat.{ℕ, _-_}
+use Prim.Native.Nat.{ℕ, _-_, _≤_, _<_}
 use mathlib.Core.Path.{_≡_, sym, ap, _∙_}
 use mathlib.Core.List.{List}
 use mathlib.Core.Bool.{Bool, true, false}
+use borrow.Author.Tests.{le-leb, lt-leb}
 use lib.ListN.{length}
 use lib.Dec.{leb}
+use Rattle.tables.proofs.Cases.{by-test}
 use Rattle.blocks.specs.Places.{wholeBlocks}
 use Rattle.refusals.specs.declared.Refusal.{Refusal}
 use Rattle.refusals.specs.Said.{Said, answers, refusal, refuses, demand}
@@ -29,19 +31,31 @@ pub says-yes : {said wanted : Said ℕ} {accepted : Bool} {n : ℕ} → (said �
     → (said ≡ wanted) × (accepted ≡ accepts said)
 says-yes v w = (v .0 ∙ sym w, fair (v .0) (v .1))
 
+-- what is said by the two tests
+module _ (fit : Bool) (needed room : ℕ) where
+  abbrev pub weighed : Said ℕ
+  weighed = demand fit 7 12288 (demand (leb needed room) 8 needed (answers needed))
+
+  pub weighed-full : fit ≡ false → weighed ≡ refuses 7 12288
+  weighed-full full = simp full
+
+  pub weighed-crowded : fit ≡ true → room < needed → weighed ≡ refuses 8 needed
+  weighed-crowded fits less = simp (fits, lt-leb needed room less)
+
+  pub weighed-well : fit ≡ true → needed ≤ room → weighed ≡ answers needed
+  weighed-well fits enough = simp (fits, le-leb needed room enough)
+
 -- with a piece so many packets are ready
 module _ {dss : Bool} {f partial waiting piece : List ℕ} {a taken : ℕ} {was : Standing}
     (known : Known dss f a taken was partial waiting piece) {now : ℕ} (now-is : now ≡ ready dss f a (wholeBlocks (length f) a)) where
   gained-is : now - was .ready ≡ gained dss f a taken
   gained-is = cc (now-is, numbers-of known .ready-is)
 
-  -- every block fits, so there is to be room for them
-  pub judged-by : fits dss f a (wholeBlocks (length f) a) ≡ true → (needed room : ℕ) → needed ≡ now - was .ready
-      → demand (leb needed room) 8 needed (answers needed) ≡ judged dss f a taken room
-  unfolding judged
-  judged-by fit needed room is = rw (fit, is, gained-is)
-
-pub judged-full : (dss : Bool) (f : List ℕ) (a taken room : ℕ) → fits dss f a (wholeBlocks (length f) a) ≡ false
-    → judged dss f a taken room ≡ refuses 7 12288
+-- so it is to be said, if that is known where every block fits
+pub judged-by : {dss : Bool} {f partial waiting piece : List ℕ} {a taken : ℕ} {was : Standing} → Known dss f a taken was partial waiting piece
+    → (fit : Bool) (now needed room : ℕ) → fit ≡ fits dss f a (wholeBlocks (length f) a)
+    → (fit ≡ true → now ≡ ready dss f a (wholeBlocks (length f) a)) → needed ≡ now - was .ready
+    → weighed fit needed room ≡ judged dss f a taken room
 unfolding judged
-judged-full dss f a taken room full = simp full
+judged-by known fit now needed room fit-is now-is is =
+    by-test fit (λ all. let gain = is ∙ gained-is known (now-is all) in rw (← fit-is, all, ← gain)) (λ full. rw (← fit-is, full))

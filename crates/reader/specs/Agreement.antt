@@ -5,7 +5,6 @@ use mathlib.Core.Path.{_≡_}
 use mathlib.Core.List.{List}
 use mathlib.Core.Bool.{true, false, cond}
 use lib.ListN.{length, getD}
-use Rattle.blocks.specs.Places.{limit}
 use Rattle.magic.specs.declared.Magic.the-variants.{Dss, Ds2}
 use Rattle.magic.specs.Magics.{magicOf}
 use Rattle.refusals.specs.Said.{Said}
@@ -19,7 +18,6 @@ wholeReading kind f = cond (isDss kind) (dssReading f) (ds2Reading f)
 
 -- f is read as this kind; of DS2's first bytes 1, 3 and 7 the last is not among them
 pub record Agrees (kind : ℕ) (f : List ℕ) : Type 0 where
-  pub small : length f ≤ limit
   pub full : startOf kind ≤ length f
   pub dss : isDss kind ≡ true → (magicOf f ≡ Dss) × (getD f 0 0 ≡ kind)
   pub ds2 : isDss kind ≡ false → (magicOf f ≡ Ds2) × (getD f 0 0 < 7) × (formatType f 1536 < 6)

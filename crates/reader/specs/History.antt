@@ -1,12 +1,13 @@
 -- Calls one after another, as their contracts have them: pieces that a reader accepted, and lenient ends. What came out is the bytes and
 -- the counts that the calls wrote, joined. Assumes nothing.
-use Prim.Native.Nat.{ℕ, _+_, _*_}
+use Prim.Native.Nat.{ℕ, _+_, _*_, _≤_, _<_}
 use mathlib.Core.Path.{_≡_}
 use mathlib.Core.List.{List, [], _∷_, _++_}
 use lib.ListN.{take}
 use Rattle.tables.specs.Table.{table}
+use Rattle.blocks.specs.Headers.{countOf, announcedIn}
 use Rattle.refusals.specs.Said.{answers}
-use Rattle.sp.specs.Readings.{Reading, joinedByteAt, fileCountAt}
+use Rattle.sp.specs.Readings.{Reading, joinedByteAt, fileCountAt, CompleteAt}
 use Rattle.sp.specs.Outcome.{roomIn, demuxedSays}
 use Rattle.reader.specs.declared.Reader.{Reader}
 use Rattle.reader.specs.declared.Step.{Step}
@@ -34,6 +35,10 @@ packetsFrom reading k n = table (42 * n) (λ i. joinedByteAt reading (42 * k + i
 
 unfoldable pub countsFrom : Reading → ℕ → ℕ → List ℕ
 countsFrom reading k n = table n (λ i. fileCountAt reading (k + i))
+
+-- every packet of block b of f, and of the blocks before it, is complete in a reading
+abbrev pub CompleteUpto : Reading → List ℕ → ℕ → ℕ → Type 0
+CompleteUpto reading f a b = (c j : ℕ) → c ≤ b → j < countOf f a c → CompleteAt reading (announcedIn f a c + j)
 
 -- all pieces joined
 unfoldable pub joined : List (List ℕ) → List ℕ

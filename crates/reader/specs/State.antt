@@ -94,7 +94,7 @@ headerFull a long = cond (eqb long 0) true (leb a long)
 abbrev pub headerDone : State → Bool
 headerDone s = headerFull (startOf (s .kind)) (length (s .bytes))
 
--- what every state has that open or a call gave back
+-- a sound state: what every state has that open or a call gave back
 pub record Sound (s : State) : Type 0 where
   pub kind-is : isKind (s .kind) ≡ true
   pub bytes-are : Bytes (s .bytes)
@@ -106,7 +106,7 @@ pub record Sound (s : State) : Type 0 where
   pub header : (s .phase ≡ 0 → ⊥) → headerDone s ≡ true
   pub phases : s .phase ≤ 2
 
--- a Reader that open or a call gave back
+-- a Reader that stands for a sound state, as every one does that open or a call gave back
 pub record Reached (reader : Reader) : Type 0 where
   pub state : State
   pub is : reader ≡ readerOf state

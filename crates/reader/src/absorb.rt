@@ -65,7 +65,7 @@ fn take_block(
     hold::add_block(dss, was, b, hold, waiting, partial, 0, number, out, counts)
 }
 
-// Adds all blocks that are whole with the piece, if it is accepted, and keeps the bytes of the one that is not.
+// For the rest of this crate. Adds all blocks that are whole with the piece, if it is accepted, and keeps the bytes of the one that is not.
 pub fn absorb(
     accepted: bool,
     dss: bool,

@@ -14,8 +14,9 @@ ghost use Prim.Native.Nat.{_+_, _-_, _/_, _%_, _≤_, _<_, _^_, min};
 ghost use lib.Dec.{eqb, leb};
 ghost use Rattle.refusals.specs.Said.{answers, refusal, demand};
 ghost use Rattle.sp.specs.Outcome.{demuxedSays};
-ghost use Rattle.reader.specs.State.{State, isKind, startOf, owed, readerOf, Sound, Reached};
-ghost use Rattle.reader.specs.Calls.{strictBy, Opens, Takes, EndsStrictly, EndsLeniently};
+ghost use Rattle.reader.specs.State.{isKind, startOf, Reached};
+ghost use Rattle.reader.specs.Calls.{strictBy, Opens};
+ghost use Rattle.reader.specs.History.{PieceCall, StrictCall, LenientCall, OwedCall};
 ghost use Rattle.reader.specs.Joined.{accepts};
 
 // What a piece would bring, with nothing written.
@@ -24,8 +25,10 @@ mod survey;
 // The blocks of a piece.
 mod absorb;
 
-// A reader by value: each call takes it and hands the next one back. All fields are numbers or arrays of them; `kind` is 0 for DS2 and 2
-// or 3 for DSS, `phase` 0 while it takes pieces, 1 while it drains, 2 when it has ended.
+// A reader by value: each call takes it and hands the next one back. All fields are numbers or arrays of them. `kind` is 0 for DS2 and 2
+// or 3 for DSS; `phase` is 0 while it takes pieces, 1 while it drains, 2 when it has ended. Then: bytes taken, frames announced, packets
+// that are ready and those drained beyond them, where the hold begins in the payload stream, the first block's byte 0, the carried byte;
+// the hold, the bytes of a block not yet whole, and of DSS blocks that wait, at most 22, three header bytes each.
 #[repr(C)]
 pub struct Reader {
     kind: u64,
@@ -81,16 +84,15 @@ fn start_of(kind: u64) -> FilePlace
     FilePlace(1536)
 }
 
-// What was found in a piece's blocks: whether all fit, what all blocks announce, the first block's byte 0. Public for the definitions
-// only, as Verdict is.
-pub struct Surveyed {
+// What was found in a piece's blocks: whether all fit, what all blocks announce, the first block's byte 0.
+struct Surveyed {
     fits: bool,
     announced: usize,
     first: u8,
 }
 
 // What is answered, and whether that accepts the call.
-pub struct Verdict {
+struct Verdict {
     accepted: bool,
     answer: Demuxed,
 }
@@ -224,7 +226,7 @@ impl Reader {
     // A whole piece, or a refusal with everything as it was: 6, 2, 7 or 8.
     pub fn piece(mut self, piece: &[u8], out: &mut [u8], counts: &mut [u8]) -> Step
         requires { ⌜ Reached self ⌝ }
-        ensures { λ r. ⌜ ((s : State) → self ≡ readerOf s → Sound s → Takes s (now (piece .entry)) (now (out .entry)) (now (out .exit)) (now (counts .entry)) (now (counts .exit)) r) ⌝ }
+        ensures { λ r. ⌜ PieceCall self (now (piece .entry)) (now (out .entry)) (now (out .exit)) (now (counts .entry)) (now (counts .exit)) r ⌝ }
     {
         let dss = self.kind != 0;
         let a = start_of(self.kind);
@@ -282,7 +284,7 @@ impl Reader {
     // that there are no packets.
     pub fn strict_end(mut self) -> Step
         requires { ⌜ Reached self ⌝ }
-        ensures { λ r. ⌜ ((s : State) → self ≡ readerOf s → Sound s → EndsStrictly s r) ⌝ }
+        ensures { λ r. ⌜ StrictCall self r ⌝ }
     {
         let a = start_of(self.kind);
         let owed = self.announced - self.ready - self.drained;
@@ -299,7 +301,7 @@ impl Reader {
     // for; or refuses by 3. While some are owed the reader drains, and then it has ended.
     pub fn lenient_end(mut self, out: &mut [u8], counts: &mut [u8]) -> Step
         requires { ⌜ Reached self ⌝ }
-        ensures { λ r. ⌜ ((s : State) → self ≡ readerOf s → Sound s → EndsLeniently s (now (out .entry)) (now (out .exit)) (now (counts .entry)) (now (counts .exit)) r) ⌝ }
+        ensures { λ r. ⌜ LenientCall self (now (out .entry)) (now (out .exit)) (now (counts .entry)) (now (counts .exit)) r ⌝ }
     {
         let dss = self.kind != 0;
         let a = start_of(self.kind);
@@ -341,7 +343,7 @@ impl Reader {
     // How many frames are announced and not handed out: what a lenient end with ample room would hand out.
     pub fn owed(self) -> usize
         requires { ⌜ Reached self ⌝ }
-        ensures { λ r. ⌜ ((s : State) → self ≡ readerOf s → Sound s → r ≡ owed s) ⌝ }
+        ensures { λ r. ⌜ OwedCall self r ⌝ }
     {
         self.announced - self.ready - self.drained
     }

@@ -160,12 +160,17 @@ fn dss_ready(
     ready
 }
 
-// Refusal 8, if there is no room for all that are needed.
-fn in_room(needed: usize, room: usize) -> Verdict
-    ensures { λ r. ⌜ (demuxedSays (r .answer) ≡ demand (leb needed room) 8 needed (answers needed)) × (r .accepted ≡ accepts (demuxedSays (r .answer))) ⌝ }
+// Refusal 7, if a block does not fit, and then 8, if there is no room for all that are needed.
+fn weigh(fits: bool, needed: usize, room: usize) -> Verdict
+    ensures { λ r. ⌜ (demuxedSays (r .answer) ≡ demand fits 7 12288 (demand (leb needed room) 8 needed (answers needed))) × (r .accepted ≡ accepts (demuxedSays (r .answer))) ⌝ }
 {
+    let full = Refusal::overflow(HOLD);
+    let crowded = Refusal::room(needed);
+    if !fits {
+        return crate::refused(full);
+    }
     if room < needed {
-        return crate::refused(Refusal::room(needed));
+        return crate::refused(crowded);
     }
     crate::accepted(needed)
 }
@@ -185,9 +190,6 @@ fn judge_ds2(
 {
     let had = was.ready;
     let found = look_over(a, taken, was, partial, piece);
-    if !found.fits {
-        return crate::refused(Refusal::overflow(HOLD));
-    }
     let end = blocks::whole_blocks(taken + piece.len(), a);
     let swap = hold::waiting::flag(found.first);
     let ready = tables::lesser(
@@ -195,10 +197,10 @@ fn judge_ds2(
         hold::places::reads_within(swap, PAYLOAD * end),
     );
     let needed = crate::past(ready, had);
-    in_room(needed, room)
+    weigh(found.fits, needed, room)
 }
 
-// The same of either kind. Every DSS block fits, so 7 is not asked there.
+// The same of either kind. Every DSS block fits.
 fn judge(
     dss: bool,
     a: FilePlace,
@@ -217,12 +219,12 @@ fn judge(
     if dss {
         let ready = dss_ready(a, taken, was, partial, waiting, piece);
         let brought = crate::past(ready, had);
-        return in_room(brought, room);
+        return weigh(true, brought, room);
     }
     judge_ds2(a, taken, was, partial, piece, room)
 }
 
-// Refusals 6 and 2 before them.
+// For the rest of this crate. Refusals 6 and 2 before them.
 pub fn decide(
     dss: bool,
     a: FilePlace,

@@ -1,6 +1,6 @@
 -- `reader::survey::judge` meets its contract: by the kind; every DSS block fits.
 -- Assumes nothing.
-use mathlib.Core.Path.{_∙_}
+use mathlib.Core.Path.{sym, _∙_}
 use Rattle.hold.proofs.Front.{dss-fits}
 use Rattle.reader.proofs.Judging.{judged-by}
 use borrow.Author.Needs.{needs}
@@ -15,18 +15,18 @@ dss-ready-requires c κs =
 past-requires : tie.Need-past-requires
 past-requires c κs = search needs
 
-in-room-requires : tie.Need-in-room-requires
-in-room-requires c κs = search needs
+weigh-requires : tie.Need-weigh-requires
+weigh-requires c κs = search needs
 
 returns : tie.Need-returns
 returns c =
     let n = c .before in
     let d = n .before in
     let t = d .before .if1 .taken in (
-      c .in-room .ensures .1,
+      c .weigh .ensures .1,
       λ f given.
           let known = rw t at given in
-          rw t (c .in-room .ensures .0 ∙ judged-by known (d .dss-ready .ensures f known) (dss-fits f _ _ (known .bytes)) _ _ (n .past .ensures)),
+          rw t (c .weigh .ensures .0 ∙ judged-by known _ _ _ _ (sym (dss-fits f _ _ (known .bytes))) (λ fit. d .dss-ready .ensures f known) (n .past .ensures)),
     )
 
 judge-ds2-requires : tie.Need-judge-ds2-requires
@@ -43,4 +43,4 @@ returns-2 c =
 pub judge-spec : {M : Type 1} → statement M
 judge-spec =
     tie.close
-    (tie.spec dss-ready-requires past-requires in-room-requires returns judge-ds2-requires returns-2)
+    (tie.spec dss-ready-requires past-requires weigh-requires returns judge-ds2-requires returns-2)

@@ -1,34 +1,14 @@
 -- `reader::survey::judge_ds2` meets its contract: by what was found in the blocks.
 -- Assumes nothing.
-use mathlib.Core.Path.{sym, _∙_}
-use mathlib.Core.Bool.{false}
-use borrow.Author.Tests.{not-true, not-false}
+use mathlib.Core.Path.{_∙_}
 use Rattle.reader.proofs.Surveying.{announced-few, ready-after}
-use Rattle.reader.proofs.Judging.{fair, refused-as, judged-by, judged-full}
+use Rattle.reader.proofs.Judging.{judged-by}
 use borrow.Author.Needs.{needs}
 use Rattle.reader.proofs.survey.judge_ds2.Statement.{statement}
 use Rattle.reader.proofs.survey.judge_ds2.Tie as tie
 
 look-over-requires : tie.Need-look-over-requires
 look-over-requires c κs = (search needs, announced-few (c .before .pre .1 .2))
-
-overflow-requires : tie.Need-overflow-requires
-overflow-requires c κs = search needs
-
-refused-requires : tie.Need-refused-requires
-refused-requires c κs = search needs
-
-returns : tie.Need-returns
-returns c =
-    let v = c .refused .ensures in
-    let o = c .before in
-    let t = o .before in
-    let l = t .before .before in (
-      fair (v .0) (v .1),
-      λ f waiting known.
-          refused-as (v .0) (o .overflow .ensures)
-          (judged-full false f _ _ _ (sym (l .look-over .ensures .1 f waiting known .0) ∙ not-true _ (t .if1 .taken))),
-    )
 
 add-whole-blocks : tie.Need-add-whole-blocks
 add-whole-blocks c = search needs
@@ -51,27 +31,25 @@ lesser-requires c κs = search needs
 past-requires : tie.Need-past-requires
 past-requires c κs = search needs
 
-in-room-requires : tie.Need-in-room-requires
-in-room-requires c κs = search needs
+weigh-requires : tie.Need-weigh-requires
+weigh-requires c κs = search needs
 
-returns-2 : tie.Need-returns-2
-returns-2 c =
+returns : tie.Need-returns
+returns c =
     let n = c .before in
     let m = n .before in
     let r = m .before in
     let s = r .before in
     let w = s .before in
-    let e = w .before in
-    let l = e .before .before in
-    let v = r .reads-within .ensures in
-    let fit = not-false _ (e .if1 .left) in (
-      c .in-room .ensures .1,
+    let l = w .before in
+    let v = r .reads-within .ensures in (
+      c .weigh .ensures .1,
       λ f waiting known.
           let look = l .look-over .ensures .1 f waiting known in
-          c .in-room .ensures .0
-          ∙ judged-by known
-          (m .lesser .ensures ∙ ready-after known _ _ _ _ _ (w .whole-blocks .ensures) (look .1 fit) (look .2) (s .flag .ensures) (v .0) (v .1))
-          (sym (look .0) ∙ fit) _ _ (n .past .ensures),
+          c .weigh .ensures .0
+          ∙ judged-by known _ _ _ _ (look .0)
+          (λ fit. m .lesser .ensures ∙ ready-after known _ _ _ _ _ (w .whole-blocks .ensures) (look .1 fit) (look .2) (s .flag .ensures) (v .0) (v .1))
+          (n .past .ensures),
     )
 
 pub judge-ds2-spec : {M : Type 1} → statement M
@@ -79,9 +57,6 @@ judge-ds2-spec =
     tie.close
     (tie.spec
     look-over-requires
-    overflow-requires
-    refused-requires
-    returns
     add-whole-blocks
     whole-blocks-requires
     flag-requires
@@ -89,5 +64,5 @@ judge-ds2-spec =
     reads-within-requires
     lesser-requires
     past-requires
-    in-room-requires
-    returns-2)
+    weigh-requires
+    returns)
