@@ -1,30 +1,18 @@
 // Bytes into the hold and out of it: a payload is put behind what is held, and what has been read is dropped in front.
-// For the rest of this crate and for the crates above. Rests on nothing but blocks' sizes.
+// For the rest of this crate and for the crates above. Rests on tables, and on blocks for the size.
 use blocks::PAYLOAD;
 ghost use mathlib.Core.Path.{_≡_};
-ghost use Prim.Native.Nat.{_+_, _≤_, _<_};
+ghost use Prim.Native.Nat.{_+_, _≤_};
 ghost use lib.ListN.{length, getD};
 ghost use Rattle.tables.specs.Lent.{Leaves};
 ghost use Rattle.hold.specs.Held.{Dropped};
-
-// Copies n bytes of a source from a place on to a place of a list.
-pub fn copy(list: &mut [u8], to: usize, source: &[u8], at: usize, n: usize)
-    requires { ⌜ (to + n ≤ length (now list)) × (0 < n → at + n ≤ length (now source)) ⌝ }
-    ensures { λ _. ⌜ Leaves (now (list .entry)) to n (λ i. getD (now (source .entry)) (at + i) 0) (now (list .exit)) ⌝ }
-{
-    let mut k = 0;
-    while k < n {
-        list[to + k] = source[at + k];
-        k += 1;
-    }
-}
 
 // Puts the payload that lies in a source behind the bytes that are held.
 pub fn append(hold: &mut [u8; 12288], held: usize, source: &[u8], at: usize)
     requires { ⌜ (length (now hold) ≡ 12288) × (held + 506 ≤ 12288) × (at + 506 ≤ length (now source)) ⌝ }
     ensures { λ _. ⌜ Leaves (now (hold .entry)) held 506 (λ i. getD (now (source .entry)) (at + i) 0) (now (hold .exit)) ⌝ }
 {
-    copy(hold, held, source, at, PAYLOAD);
+    tables::copy(hold, held, source, at, PAYLOAD);
 }
 
 // Moves n bytes from `by` places on to the front.

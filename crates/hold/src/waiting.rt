@@ -30,7 +30,7 @@ pub fn enter(waiting: &mut [u8; 66], i: usize, source: &[u8], at: usize)
     requires { ⌜ (length (now waiting) ≡ 66) × (i < 22) × (at + 3 ≤ length (now source)) ⌝ }
     ensures { λ _. ⌜ Leaves (now (waiting .entry)) (3 * i) 3 (λ k. getD (now (source .entry)) (at + k) 0) (now (waiting .exit)) ⌝ }
 {
-    crate::bytes::copy(waiting, 3 * i, source, at, 3);
+    tables::copy(waiting, 3 * i, source, at, 3);
 }
 
 // The run of a block, by its number and its header's bytes 0 to 2.

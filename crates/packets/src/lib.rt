@@ -6,10 +6,9 @@ use blocks::StreamPlace;
 ghost use mathlib.Core.Path.{_≡_};
 ghost use Prim.Native.Nat.{_+_, _*_, _≤_, _<_, _^_, _%_};
 ghost use mathlib.Core.Bool.{true, false, cond};
-ghost use lib.ListN.{length, getD};
+ghost use lib.ListN.{length};
 ghost use lib.Dec.{eqb};
 ghost use Rattle.tables.specs.Table.{table};
-ghost use Rattle.tables.specs.Lent.{Leaves};
 ghost use Rattle.blocks.specs.Places.{Whole, streamAt};
 ghost use Rattle.packets.specs.Packet.{readSize, packetByte, carryAfter, from, fileCount, IsPacket};
 ghost use Rattle.packets.specs.Start.{dssStart};
@@ -159,18 +158,6 @@ pub fn carry_after(src: &[u8], at: usize, swap: bool, carry: u8) -> u8
     src[last]
 }
 
-// Copies so many bytes of the file to a place of the window.
-fn take_run(window: &mut [u8; 42], to: usize, file: &[u8], at: usize, n: usize)
-    requires { ⌜ (length (now window) ≡ 42) × (to + n ≤ 42) × (at + n ≤ length (now file)) ⌝ }
-    ensures { λ _. ⌜ Leaves (now (window .entry)) to n (λ k. getD (now (file .entry)) (at + k) 0) (now (window .exit)) ⌝ }
-{
-    let mut k = 0;
-    while k < n {
-        window[to + k] = file[at + k];
-        k += 1;
-    }
-}
-
 // The 42 bytes of the stream from q on, by one run in each of two blocks; 0 past the stream's end.
 fn seam(file: &[u8], a: FilePlace, blocks: usize, q: StreamPlace) -> [u8; 42]
     requires { ⌜ Whole (now file) (a .0) blocks × (q .0 < 2 ^ 62) ⌝ }
@@ -185,7 +172,7 @@ fn seam(file: &[u8], a: FilePlace, blocks: usize, q: StreamPlace) -> [u8; 42]
     let here = blocks::in_file(a, q);
     let near = here.0;
     let n = tables::lesser(PAYLOAD - at % PAYLOAD, 42);
-    take_run(&mut window, 0, file, near, n);
+    tables::copy(&mut window, 0, file, near, n);
     let next = block + 1;
     if blocks <= next {
         return window;
@@ -193,7 +180,7 @@ fn seam(file: &[u8], a: FilePlace, blocks: usize, q: StreamPlace) -> [u8; 42]
     let there = blocks::in_file(a, StreamPlace(PAYLOAD * next));
     let far = there.0;
     let m = 42 - n;
-    take_run(&mut window, n, file, far, m);
+    tables::copy(&mut window, n, file, far, m);
     window
 }
 

@@ -23,7 +23,7 @@ fn renew(partial: &mut [u8; 512], piece: &[u8], taken: usize, place: usize)
     let end = tables::lesser(BLOCK, crate::past(all, place));
     let at = crate::past(place, taken);
     let n = end - kept;
-    hold::bytes::copy(partial, kept, piece, at, n);
+    tables::copy(partial, kept, piece, at, n);
     hold::bytes::clear(partial, end, BLOCK - end);
 }
 

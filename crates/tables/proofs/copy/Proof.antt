@@ -1,14 +1,14 @@
--- `hold::bytes::copy` meets its contract: the bytes so far stand where they are to.
+-- `tables::copy` meets its contract: the bytes so far stand where they are to.
 -- Assumes nothing.
 use Prim.Native.Nat.{_+_, _-_, _≤_}
 use mathlib.Core.Path.{refl}
 use native.Mathlib.Omega.{arith}
 use lib.ListN.{getD}
 use Rattle.tables.specs.Lent.{Leaves}
 use Rattle.tables.proofs.Lent.{leaves-none, leaves-more, leaves-to}
 use borrow.Author.Needs.{needs}
-use Rattle.hold.proofs.bytes.copy.Statement.{statement}
-use Rattle.hold.proofs.bytes.copy.Tie as tie
+use Rattle.tables.proofs.copy.Statement.{statement}
+use Rattle.tables.proofs.copy.Tie as tie
 
 abbrev Inv-loop : tie.InvT-loop
 Inv-loop list₀ to source at n k₀ list k = (k ≤ n) × Leaves list₀ to k (λ j. getD source (at + j) 0) list
