@@ -1,4 +1,4 @@
--- Laws of header fields: the flag is a bit of its byte, the announced sum grows block by block, and a longer file keeps both.
+-- Laws of header fields: the flag is a bit of its byte, the announced sum grows block by block by 255 at most, and a longer file keeps both.
 -- Assumes nothing.
 use Prim.Native.Nat.{ℕ, zero, suc, _+_, _*_, _/_, _%_, _≤_, _<_}
 use mathlib.Core.Path.{_≡_, refl, sym, ap, _∙_}
@@ -9,8 +9,8 @@ use borrow.Author.Tests.{le-leb, lt-leb, eq-eqb, ne-eqb}
 use lib.ListN.{List·getD-append}
 use lib.Dec.{eqb}
 use Rattle.tables.proofs.Cases.{by-order}
-use Rattle.blocks.specs.Places.{Whole}
-use Rattle.blocks.specs.Headers.{headerByte, flagOf, countOf, announcedIn}
+use Rattle.blocks.specs.Places.{Whole, blockAt}
+use Rattle.blocks.specs.Headers.{Bytes, headerByte, flagOf, countOf, announcedIn}
 
 -- the flag is the digit of 128 in the byte
 pub flag-is-bit-7 : (x : ℕ) → x < 256 → flagOf x ≡ eqb (x / 128 % 2) 1
@@ -34,6 +34,12 @@ announced-upto f a b zero h = let none : b ≡ 0 = omega arith in rw none (omega
 announced-upto f a b (suc n) h =
     by-order n b (λ l. let all : b ≡ suc n = omega arith in rw all (omega arith))
     (λ l. rw (← add-one n) (omega (arith, announced-upto f a b n l, announced-more f a n)))
+
+-- a count is a byte
+pub announced-most : (f : List ℕ) (a n : ℕ) → Bytes f → announcedIn f a n ≤ 255 * n
+announced-most f a zero bytes = omega (arith, announced-none f a)
+announced-most f a (suc n) bytes =
+    rw (← add-one n) (omega (arith, announced-more f a n, announced-most f a n bytes, bytes (blockAt a n + 2)))
 
 -- a longer file has the same headers in front, and they announce the same
 pub header-kept : (f p : List ℕ) (a b i : ℕ) → Whole f a (b + 1) → i < 6 → headerByte f a b i ≡ headerByte (f ++ p) a b i

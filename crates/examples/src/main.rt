@@ -1,4 +1,4 @@
-// The bench's examples on the code, and what detection says of types 8 to 255: a line each. What the examples say of the
+// The bench's examples on the code, what detection says of types 8 to 255, and the listing's lines: a line each. What the examples say of the
 // definitions is in specs/, and that it holds in proofs/. Rests on every crate that an example speaks of.
 use blocks::FilePlace;
 use detect::AudioFormat;
@@ -9,6 +9,9 @@ use sp::Demuxed;
 ghost use mathlib.Core.Path.{_≡_};
 ghost use Prim.Native.Nat.{_+_, _≤_};
 ghost use lib.ListN.{length};
+
+// The listing's lines.
+mod lines;
 
 fn text(bytes: &[u8]) {
     io::write_all(STDOUT_FILENO, bytes);
@@ -300,4 +303,5 @@ fn main() {
     text(b"types reported as SP and read as QP:");
     number(reported_otherwise());
     text(b"\n");
+    lines::show_lines();
 }

@@ -12,13 +12,13 @@ use Rattle.tables.specs.Table.{table}
 use Rattle.blocks.specs.Places.{streamAt}
 use Rattle.blocks.specs.Stream.{joined}
 use Rattle.refusals.specs.declared.Refusal.{Refusal}
-use Rattle.refusals.specs.Said.{Said, answers, refuses, refusal}
+use Rattle.refusals.specs.Said.{Said, answers, refusal}
 use Rattle.refusals.proofs.Said.{only-one}
 use Rattle.detect.specs.declared.Recording.{Recording}
 use Rattle.detect.specs.Admissions.{admission}
 use Rattle.frames.specs.declared.Fetched.{Fetched}
 use Rattle.frames.specs.declared.Fetched.the-variants.{InFile, InScratch, Refused}
-use Rattle.frames.specs.Fetch.{Stand, inFile, inScratch, fetchFrom, isInside, fetchedSays, filled, shown, Fills}
+use Rattle.frames.specs.Fetch.{Stand, inFile, inScratch, fetchFrom, isInside, fetchedSays, shown, Fills}
 use Rattle.frames.specs.Cut.{cut, fetchedBytes, fetchedFrames}
 use Rattle.refusals.proofs.Said.{by-said}
 use Rattle.frames.proofs.Fetch.{fetched-from, filled-inside}

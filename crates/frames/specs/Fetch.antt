@@ -8,7 +8,7 @@ use lib.ListN.{length, take, drop}
 use lib.Dec.{leb}
 use Rattle.tables.specs.Lent.{over}
 use Rattle.blocks.specs.Places.{Whole, fileOf}
-use Rattle.refusals.specs.Said.{Said, answers, refuses, refusal, demand, onward}
+use Rattle.refusals.specs.Said.{Said, answers, refusal, demand, onward}
 use Rattle.detect.specs.declared.Recording.{Recording}
 use Rattle.detect.specs.Admissions.{admission, streamIn}
 use Rattle.frames.specs.declared.Fetched.{Fetched}

@@ -1,17 +1,14 @@
--- Headers of blocks that wait, byte by byte; and how much a header can announce, and where its frames start at the least.
+-- Headers of blocks that wait, byte by byte; and where a header's frames start at the least.
 -- Assumes nothing.
-use Prim.Native.Nat.{ℕ, zero, suc, _+_, _*_, _/_, _%_, _≤_, _<_}
+use Prim.Native.Nat.{ℕ, _+_, _*_, _/_, _%_, _≤_, _<_}
 use mathlib.Core.Path.{_≡_, ap, _∙_}
 use mathlib.Core.List.{List}
 use mathlib.Core.Bool.{Bool}
-use native.Mathlib.Numerals.{add-one}
 use native.Mathlib.Omega.{arith}
 use borrow.Author.Tests.{lt-ltb}
 use lib.ListN.{getD}
 use Rattle.tables.proofs.Table.{table-at}
-use Rattle.blocks.specs.Places.{blockAt}
-use Rattle.blocks.specs.Headers.{Bytes, headerByte, announcedIn}
-use Rattle.blocks.proofs.Headers.{announced-none, announced-more}
+use Rattle.blocks.specs.Headers.{headerByte}
 use Rattle.packets.specs.Start.{dssStart}
 use Rattle.hold.specs.Held.{headersFrom}
 
@@ -35,12 +32,6 @@ waiting-bytes f a n j i block waiting few is number there =
         ∙ header-waits f a n j p (omega arith) (omega arith)
         ∙ ap (λ (b : ℕ). headerByte f a b (p % 3)) entry
         ∙ ap (headerByte f a block) here
-
--- a count is a byte
-pub announced-most : (f : List ℕ) (a n : ℕ) → Bytes f → announcedIn f a n ≤ 255 * n
-announced-most f a zero bytes = omega (arith, announced-none f a)
-announced-most f a (suc n) bytes =
-    rw (← add-one n) (omega (arith, announced-more f a n, announced-most f a n bytes, bytes (blockAt a n + 2)))
 
 -- a block's frames start in its payload, or right after it
 pub start-least : (block byte1 : ℕ) (swap : Bool) → 506 * block ≤ dssStart block byte1 swap

@@ -4,7 +4,6 @@ pub mod Ready
 pub mod Front
 pub mod Carries
 pub mod Longer
-pub mod Reaches
 pub mod Moving
 pub mod Windows
 pub mod Handed

@@ -17,7 +17,7 @@ use Rattle.hold.specs.Owed.{Due, Walking, Queued, Owing}
 use Rattle.hold.proofs.Ready.{total-is, front-within, reach-upto, ds2-base}
 use Rattle.hold.proofs.Front.{few-wait}
 use Rattle.hold.proofs.Numbers.{Numbered, numbered, front-is, base-aligned, out-before}
-use Rattle.hold.proofs.Headers.{announced-most}
+use Rattle.blocks.proofs.Headers.{announced-most}
 use Rattle.hold.proofs.DssBlock.{dss-waits}
 
 module _ {dss : Bool} {n d m : ℕ} {hold waiting : List ℕ} {was : Standing} {o c : ℕ} (g : Owing dss n d m hold waiting was o c) where

@@ -22,7 +22,7 @@ use Rattle.hold.specs.Ready.{readingIn}
 use Rattle.hold.specs.Parts.{partOf, PartWritten}
 use Rattle.hold.specs.Owed.{Due}
 use Rattle.hold.proofs.Ready.{total-is}
-use Rattle.hold.proofs.Reaches.{reach-most}
+use Rattle.packets.proofs.Reaches.{reach-most}
 use Rattle.hold.proofs.Headers.{start-least}
 use Rattle.hold.proofs.Partwise.{part-none, part-join, part-of-walk}
 

@@ -21,8 +21,8 @@ use Rattle.hold.specs.Held.{Holds}
 use Rattle.hold.specs.Parts.{partOf, PartWritten}
 use Rattle.hold.specs.Owed.{Walking}
 use Rattle.hold.proofs.Ready.{total-is}
-use Rattle.hold.proofs.Reaches.{reach-most}
-use Rattle.hold.proofs.Headers.{announced-most}
+use Rattle.packets.proofs.Reaches.{reach-most}
+use Rattle.blocks.proofs.Headers.{announced-most}
 use Rattle.hold.proofs.Partwise.{part-of-walk}
 
 module _ {n k m number : ℕ} {hold : List ℕ} {place first carry o c : ℕ} (g : Walking n k m number hold place first carry o c) where

@@ -15,7 +15,7 @@ ghost use Rattle.hold.specs.Parts.{PartWritten};
 ghost use Rattle.hold.specs.Between.{Next, Added};
 ghost use Rattle.hold.specs.Owed.{Walking, Owing};
 
-// The reads of a run with no walk.
+// Runs with no walk.
 pub mod places;
 
 // Bytes into the hold and out of it.
@@ -103,7 +103,7 @@ fn add_ds2(
     let announced = was.announced + tables::wide(source[at + 2]);
     let swap = waiting::flag(first);
     let all = b + 1;
-    let ready = tables::lesser(announced, places::reads_within(swap, PAYLOAD * all));
+    let ready = tables::lesser(announced, packets::reads_within(swap, PAYLOAD * all));
     let k = was.ready;
     let m = ready - k;
     let carry = write_walk(
@@ -118,7 +118,7 @@ fn add_ds2(
         out,
         counts,
     );
-    let next = places::reach(swap, ready);
+    let next = packets::reach(swap, ready);
     bytes::drop_front(hold, next - base, held + PAYLOAD);
     Standing {
         announced,

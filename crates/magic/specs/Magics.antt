@@ -12,6 +12,10 @@ use Rattle.magic.specs.declared.Magic.the-variants.{Dss, Ds2, Encrypted,
 unfoldable pub spells : List ℕ → ℕ → ℕ → ℕ → Bool
 spells f x y z = eqb (getD f 1 0) x && eqb (getD f 2 0) y && eqb (getD f 3 0) z
 
+-- they are `dss`: 100, 115, 115
+unfoldable pub namesDss : List ℕ → Bool
+namesDss f = spells f 100 115 115
+
 -- 2 or 3 and `dss` is DSS, 6 and `dss` is Grundig's
 unfoldable pub dssBy : ℕ → Magic
 dssBy first = cond (eqb first 2 || eqb first 3) Dss (cond (eqb first 6) Grundig Other)

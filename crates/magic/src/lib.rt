@@ -3,7 +3,7 @@
 ghost use mathlib.Core.Path.{_≡_};
 ghost use Prim.Native.Nat.{_≤_};
 ghost use lib.ListN.{length, getD};
-ghost use Rattle.magic.specs.Magics.{spells, dssBy, ds2By, encBy, magicOf};
+ghost use Rattle.magic.specs.Magics.{spells, namesDss, dssBy, ds2By, encBy, magicOf};
 
 // What a file's first four bytes say.
 pub enum Magic {
@@ -72,6 +72,16 @@ fn enc_by(first: u8) -> Magic
         return Magic::Encrypted;
     }
     Magic::Other
+}
+
+// For the crates above. Whether bytes 1 to 3 of the file are `dss`, whatever its first byte is.
+pub fn names_dss(file: &[u8]) -> bool
+    ensures { λ r. ⌜ r ≡ namesDss (now (file .entry)) ⌝ }
+{
+    if file.len() < 4 {
+        return false;
+    }
+    is_spelt(file, b'd', b's', b's')
 }
 
 // For the crates above. What the file's first four bytes say.

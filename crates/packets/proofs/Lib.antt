@@ -2,5 +2,6 @@
 pub mod Gathered
 pub mod Longer
 pub mod Packets
+pub mod Reaches
 pub mod Start
 pub mod Walk

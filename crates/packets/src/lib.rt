@@ -12,6 +12,7 @@ ghost use Rattle.tables.specs.Table.{table};
 ghost use Rattle.blocks.specs.Places.{Whole, streamAt};
 ghost use Rattle.packets.specs.Packet.{readSize, packetByte, carryAfter, from, fileCount, IsPacket};
 ghost use Rattle.packets.specs.Start.{dssStart};
+ghost use Rattle.packets.specs.Walk.{reach, parity};
 ghost use Rattle.packets.specs.Gathered.{bytesOf, Shifted, Blended, Window};
 
 // The size of a packet.
@@ -46,6 +47,38 @@ pub fn file_count(long: usize, q: StreamPlace, swap: bool) -> u8
     }
     let count = tables::lesser(read_size(swap), long - at);
     count as u8
+}
+
+// How far k packets go.
+pub fn reach(swap: bool, k: usize) -> usize
+    requires { ⌜ k ≤ 2 ^ 48 ⌝ }
+    ensures { λ r. ⌜ r ≡ reach swap k ⌝ }
+{
+    if swap {
+        return 41 * k - k % 2;
+    }
+    41 * k + k % 2
+}
+
+// The parity after k packets.
+pub fn parity(swap: bool, k: usize) -> bool
+    ensures { λ r. ⌜ r ≡ parity swap k ⌝ }
+{
+    if k % 2 == 0 { swap } else { !swap }
+}
+
+// How many reads end at or before m: a pair takes 82 bytes, and what is left of them is one read more or none.
+pub fn reads_within(swap: bool, m: usize) -> usize
+    requires { ⌜ m ≤ 2 ^ 48 ⌝ }
+    ensures { λ r. ⌜ (reach swap r ≤ m) × (m < reach swap (r + 1)) × (r ≤ m) ⌝ }
+{
+    let pairs = m / 82;
+    let left = m % 82;
+    let first = read_size(swap);
+    if left < first {
+        return 2 * pairs;
+    }
+    2 * pairs + 1
 }
 
 fn swap_bit(swap: bool) -> usize

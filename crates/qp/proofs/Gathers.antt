@@ -11,7 +11,7 @@ use Rattle.tables.proofs.Entries.{in-turn-long, in-turn-more, fronts-more}
 use Rattle.blocks.specs.declared.StreamPlace.{StreamPlace}
 use Rattle.qp.specs.declared.Segment.{Segment}
 use Rattle.qp.specs.declared.Gathering.{Gathering}
-use Rattle.qp.specs.Segments.{Gathered, nothing, openSegment, closed, begun, moved, counted}
+use Rattle.qp.specs.Segments.{Gathered, openSegment, closed, begun, moved, counted}
 use Rattle.qp.specs.Outcome.{entryOf, words}
 use Rattle.qp.specs.Written.{numbersOf, Near, Holds, Closes, Moves}
 
@@ -61,25 +61,32 @@ closes-some long most g gathering stop reset table table′ is =
               (fronts-more 4 (length (g .kept)) most (words (g .kept)) (entryOf (openSegment long g)) (in-turn-long entryOf 4 (λ x. refl) (g .kept)) refl h entry));
         }
 
--- a block that starts at the read place goes on with the segment
+-- a block that starts at the read place changes nothing, and another closes the open segment
+module _ (long q : ℕ) (g : Gathered) where
+  pub moved-on : q ≡ g .place → moved long q g ≡ g
+  unfolding moved
+  moved-on e = simp (eq-eqb q (g .place) e)
+
+  pub moved-away : (q ≡ g .place → ⊥) → moved long q g ≡ begun (closed long g) q
+  unfolding moved
+  moved-away e = simp (ne-eqb q (g .place) e)
+
+-- the same in the code's numbers, and in the table
 pub moves-on : (long q most : ℕ) (g : Gathered) (gathering : Gathering) (table : List ℕ) → gathering ≡ numbersOf g → q ≡ gathering .place .0
     → Moves long q most g table table gathering
-unfolding moved
 moves-on long q most g gathering table is there =
-    let same : moved long q g ≡ g = simp (eq-eqb q (g .place) (there ∙ ap (λ (x : Gathering). x .place .0) is)) in
+    let same : moved long q g ≡ g = moved-on long q g (there ∙ ap (λ (x : Gathering). x .place .0) is) in
     record {
       gathering-is = is ∙ ap numbersOf (sym same);
       written = λ d h. subst (λ (x : Gathered). Holds most (x .kept) d table) (sym same) h;
     }
 
--- one that starts elsewhere closes the segment and begins its own
 pub moves-away : (long most : ℕ) (at : StreamPlace) (g : Gathered) (gathering : Gathering) (table table′ : List ℕ) (kept : ℕ) → gathering ≡ numbersOf g
     → (at .0 ≡ gathering .place .0 → ⊥) → Closes long most g table table′ kept
     → Moves long (at .0) most g table table′ (record { start = at; place = at; frames = 0; kept = kept })
-unfolding moved
 moves-away long most at g gathering table table′ kept is away c =
     let same : moved long (at .0) g ≡ begun (closed long g) (at .0) =
-    simp (ne-eqb (at .0) (g .place) (λ e. away (e ∙ sym (ap (λ (x : Gathering). x .place .0) is)))) in
+    moved-away long (at .0) g (λ e. away (e ∙ sym (ap (λ (x : Gathering). x .place .0) is))) in
     record {
       gathering-is = ap (λ (n : ℕ). record { start = at; place = at; frames = 0; kept = n }) (c .kept-is) ∙ ap numbersOf (sym same);
       written = λ d h. subst (λ (x : Gathered). Holds most (x .kept) d table′) (sym same) (c .written d h);

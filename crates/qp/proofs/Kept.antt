@@ -6,18 +6,20 @@ use mathlib.Core.List.{List, [], _∷_, _++_}
 use native.Mathlib.Omega.{arith}
 use native.Mathlib.Numerals.{add-one}
 use native.Mathlib.Nat.{not-suc-le-zero}
-use borrow.Author.Tests.{eq-eqb, ne-eqb}
 use lib.ListN.{length, getD}
 use Rattle.tables.specs.Table.{sumOf, Each}
 use Rattle.tables.proofs.Cases.{by-order, by-equal}
-use Rattle.tables.proofs.Table.{sum-more, sum-none, each-none, each-more, place-more}
+use Rattle.tables.proofs.Table.{sum-more, sum-none, sum-both, each-none, each-more, place-more}
 use Rattle.blocks.specs.Headers.{Bytes, firstOf, countOf, announcedIn}
 use Rattle.blocks.proofs.Headers.{announced-none, announced-more}
 use Rattle.frames.specs.Start.{framesStart}
+use Rattle.frames.specs.Frames.{handedOut, missingOf}
 use Rattle.frames.proofs.Start.{starts-inside}
+use Rattle.frames.proofs.Frames.{handed-and-missing}
 use Rattle.qp.specs.declared.Segment.{Segment}
 use Rattle.qp.specs.Segments.{Gathered, nothing, openSegment, closed, begun, moved, counted, gatheredTo, Lies}
-use Rattle.qp.proofs.Gathers.{closed-none, closed-some}
+use Rattle.qp.specs.Handed.{announcedOf, handedOutOf, missingFrom}
+use Rattle.qp.proofs.Gathers.{closed-none, closed-some, moved-on, moved-away}
 use Rattle.qp.proofs.Blockwise.{gathered-none, gathered-more}
 
 -- the two ways of closing a segment, and of a block's arrival
@@ -27,15 +29,8 @@ by-closing P long g none some =
     by-order 0 (g .frames) (λ h. subst P (sym (closed-some long g h)) (some h)) (λ h. subst P (sym (closed-none long g h)) (none h))
 
 by-moving : (P : Gathered → Type 0) (long q : ℕ) (g : Gathered) → P g → P (begun (closed long g) q) → P (moved long q g)
-unfolding moved
 by-moving P long q g on away =
-    by-equal q (g .place) (λ e. subst P (sym (stays e)) on) (λ e. subst P (sym (leaves e)) away)
-  where
-    stays : q ≡ g .place → moved long q g ≡ g
-    stays e = simp (eq-eqb q (g .place) e)
-
-    leaves : (q ≡ g .place → ⊥) → moved long q g ≡ begun (closed long g) q
-    leaves e = simp (ne-eqb q (g .place) e)
+    by-equal q (g .place) (λ e. subst P (sym (moved-on long q g e)) on) (λ e. subst P (sym (moved-away long q g e)) away)
 
 -- what holds before the first block and is kept by each block holds after b of them
 by-blocks : (P : ℕ → Gathered → Type 0) (f : List ℕ) (a n : ℕ) → P 0 nothing
@@ -66,6 +61,12 @@ gathered-sum f a n b =
 -- the segments' frame totals add up to the announced sum
 pub totals-add-up : (f : List ℕ) (a n : ℕ) → sumOf framesOf (closed (506 * n) (gatheredTo f a n n)) ≡ announcedIn f a n
 totals-add-up f a n = closed-sum (506 * n) (gatheredTo f a n n) ∙ gathered-sum f a n n
+
+-- what segments hand out and what is missing from them is together all that they announce
+pub handed-or-missing : (segments : List Segment) → handedOutOf segments + missingFrom segments ≡ announcedOf segments
+handed-or-missing segments =
+    sum-both (λ s. handedOut (s .long) (s .frames)) (λ s. missingOf (s .long) (s .frames)) (λ s. s .frames)
+    (λ s. handed-and-missing (s .long) (s .frames)) segments
 
 -- what holds of the open segment after b blocks of n, and of those kept: each has bytes of the stream
 record Placed (n b : ℕ) (g : Gathered) : Type 0 where

@@ -14,8 +14,8 @@ use Rattle.tables.proofs.Cases.{by-order}
 use Rattle.tables.proofs.Entries.{in-turn-long, fronts-all, fronts-nothing}
 use Rattle.refusals.specs.declared.Refusal.{Refusal}
 use Rattle.refusals.specs.Numbers.{numbered}
-use Rattle.refusals.specs.Said.{Said, answers, refuses, refusal}
-use Rattle.refusals.proofs.Said.{passed, went-on, only-one, readFrom, asked-of}
+use Rattle.refusals.specs.Said.{Said, answers, refusal}
+use Rattle.refusals.proofs.Said.{went-on, only-one, readFrom, asked-of}
 use Rattle.detect.specs.declared.Recording.{Recording}
 use Rattle.detect.specs.declared.Kind.the-variants.{Qp}
 use Rattle.detect.specs.Admissions.{announcedBy, ds2Admission}

@@ -12,7 +12,7 @@ use lib.Dec.{eqb}
 use Rattle.tables.specs.Settled.{SettledAs}
 use Rattle.tables.specs.Table.{table, sum, sumOf, Each}
 use Rattle.tables.specs.Entries.{fronted}
-use Rattle.tables.proofs.Table.{each-at, sum-both, sum-same}
+use Rattle.tables.proofs.Table.{each-at, sum-same}
 use Rattle.tables.proofs.Entries.{entries-stand, in-turn-same, in-turn-many}
 use Rattle.blocks.specs.Places.{Whole}
 use Rattle.blocks.specs.Headers.{Bytes}
@@ -25,9 +25,9 @@ use Rattle.detect.specs.declared.Recording.{Recording}
 use Rattle.detect.specs.declared.Kind.the-variants.{Qp}
 use Rattle.detect.specs.Admissions.{announcedBy, ds2Admission}
 use Rattle.detect.proofs.Admissions.{ds2-admitted}
-use Rattle.frames.specs.Frames.{frameSize, handedOut, shortAmong, missingOf}
+use Rattle.frames.specs.Frames.{frameSize, handedOut, shortAmong}
 use Rattle.frames.specs.Cut.{cut, fetchedFrames}
-use Rattle.frames.proofs.Frames.{handed-and-missing, handed-is, short-is, sizes-add-up}
+use Rattle.frames.proofs.Frames.{handed-is, short-is, sizes-add-up}
 use Rattle.frames.proofs.Cut.{cut-many}
 use Rattle.frames.proofs.Theorems.{frames-are-cut}
 use Rattle.qp.specs.declared.Segment.{Segment}
@@ -36,7 +36,7 @@ use Rattle.qp.specs.declared.Demuxed.{Demuxed}
 use Rattle.qp.specs.Segments.{Reading, readingOf, segmentsFrom, qpReading, Lies}
 use Rattle.qp.specs.Outcome.{entryOf, words, inRoom, inTable, totalsOf, answered, tableAfter, demuxedSays, Demuxes}
 use Rattle.qp.specs.Handed.{bytesOf, framesOf, fetchedOf, announcedOf, handedOutOf, shortOf, missingFrom, bytesIn}
-use Rattle.qp.proofs.Kept.{totals-add-up, all-lie, all-reset}
+use Rattle.qp.proofs.Kept.{totals-add-up, handed-or-missing, all-lie, all-reset}
 use Rattle.qp.proofs.Outcome.{accepted-read, Seen, only-outcome}
 use Rattle.qp.proofs.demux_ds2_qp.Kinds as qp
 use Rattle.qp.proofs.demux_ds2_qp.Reads as qp-reads
@@ -146,7 +146,7 @@ module _ (f : List ℕ) (r : Reading) (read : qpReading f ≡ answers r) where
           w .1,
           in-turn-many (Lies (506 * rec .blocks)) (λ s. cut (s .frames) (bytesOf f rec s)) (λ s. handedOut (s .long) (s .frames))
               (λ s l. cut-many (s .frames) (bytesOf f rec s) ∙ ap (λ (x : ℕ). handedOut x (s .frames)) (bytes-long rec s whole l)) (r .segments) (w .3),
-          sum-both (λ s. handedOut (s .long) (s .frames)) (λ s. missingOf (s .long) (s .frames)) (λ s. s .frames) (λ s. handed-and-missing (s .long) (s .frames)) (r .segments) ∙ all,
+          handed-or-missing (r .segments) ∙ all,
         )
 
     -- How many that is, by the segments' lengths: for each its length by 56, rounded up; one is short for each whose length 56 does not

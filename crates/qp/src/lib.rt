@@ -33,12 +33,13 @@ pub struct Segment {
     pub reset: usize,
 }
 
-// The open segment, in numbers: where it starts, the read place, its frame total; and how many segments were kept before it.
-struct Gathering {
-    start: StreamPlace,
-    place: StreamPlace,
-    frames: usize,
-    kept: usize,
+// The open segment, in numbers: where it starts, the read place, its frame total; and how many segments were kept before it. Public for
+// the crates above.
+pub struct Gathering {
+    pub start: StreamPlace,
+    pub place: StreamPlace,
+    pub frames: usize,
+    pub kept: usize,
 }
 
 // How many segments a file has, and how many frames it announces.
@@ -92,8 +93,8 @@ fn close(gathering: Gathering, end: usize, most: usize, table: &mut [u32]) -> us
     number + 1
 }
 
-// A block arrives that starts there: elsewhere than the read place, it closes the segment and begins its own.
-fn arrive(
+// For the crates above too. A block arrives that starts there: elsewhere than the read place, it closes the segment and begins its own.
+pub fn arrive(
     gathering: Gathering,
     at: StreamPlace,
     end: usize,
@@ -117,8 +118,8 @@ fn arrive(
     }
 }
 
-// A block's frames follow at the read place.
-fn add(gathering: Gathering, count: usize) -> Gathering
+// For the crates above too. A block's frames follow at the read place.
+pub fn add(gathering: Gathering, count: usize) -> Gathering
     requires { ⌜ (gathering .place .0 + 56 * count < 2 ^ 64) × (gathering .frames + count < 2 ^ 64) ⌝ }
     ensures adds { λ r. ⌜ ((g : Gathered) → gathering ≡ numbersOf g → r ≡ numbersOf (counted count g)) ⌝ }
     ensures near { λ r. ⌜ ((long frames kept : ℕ) → Near long frames kept gathering → Near long (frames + count) kept r) ⌝ }

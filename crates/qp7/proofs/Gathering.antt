@@ -20,7 +20,7 @@ use Rattle.qp7.specs.Written.{numbersOf, numbersAt, walkedSays, Near, Re
 use Rattle.qp7.proofs.Closing.{closing-records, closes-unwritten}
 
 -- one block more
-gathered-more : (f : List ℕ) (a n b : ℕ) → gatheredTo f a n (b + 1) ≡ onward (gatheredTo f a n b) (withBlock f a n b)
+pub gathered-more : (f : List ℕ) (a n b : ℕ) → gatheredTo f a n (b + 1) ≡ onward (gatheredTo f a n b) (withBlock f a n b)
 unfolding gatheredTo
 gathered-more f a n b = ap (gatheredTo f a n) (add-one b)
 

@@ -12,7 +12,7 @@ use Rattle.refusals.specs.Said.{answers, onward}
 use Rattle.refusals.proofs.Said.{went-on, for-the-answer}
 use Rattle.detect.specs.declared.Recording.{Recording}
 use Rattle.detect.specs.declared.Kind.the-variants.{Qp7}
-use Rattle.detect.specs.Admissions.{ds2Admission}
+use Rattle.detect.specs.Admissions.{announcedBy, ds2Admission}
 use Rattle.frames.specs.Start.{framesStart}
 use Rattle.qp7.specs.Records.{recordAt}
 use Rattle.qp7.specs.Walk.{Gathered, nothing, noted, raised, closing, reads, withBlock, gatheredTo, gatheredFrom, qp7Reading}
@@ -81,6 +81,14 @@ pub before-the-end : (f : List ℕ) (rec : Recording) (g : Gathered) → gathere
 before-the-end f rec g e =
     let w = went-on (gatheredTo f (rec .start .0) (rec .blocks) (rec .blocks)) (λ h. answers (closing h)) (sym (gathered-from f rec) ∙ e) in
     (w .0, w .1, for-the-answer (λ (x : Gathered). closing (w .0) ≡ x) (w .2) refl)
+
+-- all blocks have as many as they announce
+pub records-many : (f : List ℕ) (rec : Recording) (g : Gathered) → gatheredFrom f rec ≡ answers g → length (g .records) ≡ announcedBy f rec
+records-many f rec g e =
+    let h = before-the-end f rec g e in
+    ap (λ (x : Gathered). length (x .records)) (sym (h .2))
+    ∙ ap length (closing-records (h .0))
+    ∙ walk-many f (rec .start .0) (rec .blocks) (rec .blocks) (h .0) (h .1)
 
 -- a file that is read was admitted, and what was gathered is what its recording gathers
 pub admitted-first : (f : List ℕ) (g : Gathered) → qp7Reading f ≡ answers g

@@ -14,7 +14,7 @@ use Rattle.detect.specs.declared.Recording.{Recording}
 use Rattle.detect.specs.declared.Kind.the-variants.{Qp7}
 use Rattle.detect.specs.Admissions.{ds2Admission}
 use Rattle.qp7.specs.Records.{recordSize, recordAt}
-use Rattle.qp7.specs.Walk.{Gathered, nothing, noted, raised, closing, qp7Reading, placeAt, sizeAt}
+use Rattle.qp7.specs.Walk.{Gathered, noted, raised, closing, qp7Reading, placeAt, sizeAt}
 use Rattle.qp7.proofs.Records.{record-found}
 use Rattle.qp7.proofs.Closing.{closing-records, closing-place}
 use Rattle.qp7.proofs.Keeping.{Kept, walk-keeps-it, before-the-end, gathered-by}

@@ -13,7 +13,7 @@ use Rattle.tables.proofs.Table.{same-table, table-sum-more, table-sum-none}
 use Rattle.blocks.specs.Places.{streamAt}
 use Rattle.refusals.specs.Said.{answers}
 use Rattle.qp7.specs.declared.Segment.{Segment}
-use Rattle.qp7.specs.Walk.{Gathered, nothing, openSegment, closing, qp7Reading, noSegment, segmentAt, recordsBefore}
+use Rattle.qp7.specs.Walk.{Gathered, openSegment, closing, qp7Reading, noSegment, segmentAt, recordsBefore}
 use Rattle.qp7.proofs.Closing.{closedAt, closing-none, closing-one}
 use Rattle.qp7.proofs.Keeping.{Kept, walk-keeps-it, before-the-end, admitted-first}
 

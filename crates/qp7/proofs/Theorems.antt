@@ -7,7 +7,6 @@ use native.Mathlib.Omega.{arith}
 use denote.Ref.{now}
 use lib.ListN.{length, take, drop}
 use Rattle.tables.specs.Settled.{SettledAs}
-use Rattle.tables.specs.Table.{table}
 use Rattle.tables.specs.Entries.{fronted}
 use Rattle.blocks.specs.Places.{streamAt}
 use Rattle.blocks.specs.Stream.{joined}
@@ -26,8 +25,7 @@ use Rattle.qp7.specs.declared.Demuxed.{Demuxed}
 use Rattle.qp7.specs.Walk.{Gathered, qp7Reading, placeAt, sizeAt, segmentAt, recordsBefore}
 use Rattle.qp7.specs.Outcome.{recordWords, segmentWords, inRoom, inTables, totalsOf, answered, recordsAfter, segmentsAfter, demuxedSays, Demuxes, TablesHold}
 use Rattle.qp7.proofs.Records.{size-bounds}
-use Rattle.qp7.proofs.Closing.{closing-records}
-use Rattle.qp7.proofs.Keeping.{walk-many, before-the-end, admitted-first}
+use Rattle.qp7.proofs.Keeping.{records-many, admitted-first}
 use Rattle.qp7.proofs.Lying.{gathered-lie}
 use Rattle.qp7.proofs.Shares.{gathered-shared}
 use Rattle.qp7.proofs.Words.{tables-by}
@@ -39,14 +37,7 @@ use Rattle.qp7.proofs.demux_ds2_qp7.Reads as qp7-reads
 pub records-announced : (f : List ℕ) (g : Gathered) → qp7Reading f ≡ answers g
     → (rec : Recording) × (ds2Admission f Qp7 ≡ answers rec) × (length (g .records) ≡ announcedBy f rec)
 records-announced f g e =
-    let r = admitted-first f g e in
-    let h = before-the-end f (r .0) g (r .2) in (
-      r .0,
-      r .1,
-      ap (λ (x : Gathered). length (x .records)) (sym (h .2))
-          ∙ ap length (closing-records (h .0))
-          ∙ walk-many f (r .0 .start .0) (r .0 .blocks) (r .0 .blocks) (h .0) (h .1),
-    )
+    let r = admitted-first f g e in (r .0, r .1, records-many f (r .0) g (r .2))
 
 module _ (f : List ℕ) (g : Gathered) (e : qp7Reading f ≡ answers g) where
   -- The segments have as many records together as there are.

@@ -34,16 +34,16 @@ enum Record {
 }
 
 // Where the walk stands: the read place, how many records were read and how many segments closed, and the number of the open segment's
-// first record.
-struct Walk {
-    place: StreamPlace,
-    records: usize,
-    segments: usize,
-    first: usize,
+// first record. Public for the crates above.
+pub struct Walk {
+    pub place: StreamPlace,
+    pub records: usize,
+    pub segments: usize,
+    pub first: usize,
 }
 
-// Where the walk stands after some records or blocks, or why it ended.
-enum Walked {
+// Where the walk stands after some records or blocks, or why it ended. Public for the crates above.
+pub enum Walked {
     At(Walk),
     Refused(Refusal),
 }
@@ -211,8 +211,8 @@ fn raise(walk: Walk, q: StreamPlace) -> Walk
     }
 }
 
-// Goes on with a block: a silent one closes a segment, another is read.
-fn with_block(
+// For the crates above too. Goes on with a block: a silent one closes a segment, another is read.
+pub fn with_block(
     file: &[u8],
     recording: Recording,
     block: usize,

@@ -19,7 +19,7 @@ use Rattle.hold.specs.Held.{headersFrom, waitingAt}
 use Rattle.hold.proofs.Leading.{leads-only}
 use Rattle.hold.proofs.Ready.{front-leads, front-within, dss-ready}
 use Rattle.hold.proofs.Front.{few-wait}
-use Rattle.hold.proofs.Headers.{announced-most}
+use Rattle.blocks.proofs.Headers.{announced-most}
 use Rattle.hold.proofs.Numbers.{front-is, out-before}
 use Rattle.reader.specs.Joined.{Joins, Known}
 use Rattle.reader.proofs.Sources.{numbers-of}

@@ -17,7 +17,7 @@ use Rattle.hold.specs.Held.{baseAt, blockFits, fits}
 use Rattle.hold.proofs.Leading.{never}
 use Rattle.hold.proofs.Ready.{ds2-ready-is, ready-none, ds2-base, base-within}
 use Rattle.hold.proofs.Front.{fits-each, each-fits}
-use Rattle.hold.proofs.Headers.{announced-most}
+use Rattle.blocks.proofs.Headers.{announced-most}
 use Rattle.reader.specs.Joined.{Joins, Known}
 use Rattle.reader.proofs.Sources.{numbers-of}
 

@@ -61,8 +61,8 @@ fn block_fits(first: u8, announced: usize, b: usize) -> bool
     ensures { λ r. ⌜ ((f : List ℕ) (a : ℕ) → Bytes f → announced ≡ announcedIn f a b → (0 < b → first ≡ headerByte f a 0 0) → r ≡ blockFits false f a b) ⌝ }
 {
     let swap = hold::waiting::flag(first);
-    let ready = tables::lesser(announced, hold::places::reads_within(swap, PAYLOAD * b));
-    let base = hold::places::reach(swap, ready);
+    let ready = tables::lesser(announced, packets::reads_within(swap, PAYLOAD * b));
+    let base = packets::reach(swap, ready);
     PAYLOAD * (b + 1) <= base + HOLD
 }
 
@@ -192,10 +192,7 @@ fn judge_ds2(
     let found = look_over(a, taken, was, partial, piece);
     let end = blocks::whole_blocks(taken + piece.len(), a);
     let swap = hold::waiting::flag(found.first);
-    let ready = tables::lesser(
-        found.announced,
-        hold::places::reads_within(swap, PAYLOAD * end),
-    );
+    let ready = tables::lesser(found.announced, packets::reads_within(swap, PAYLOAD * end));
     let needed = crate::past(ready, had);
     weigh(found.fits, needed, room)
 }

@@ -6,7 +6,7 @@ use mathlib.Core.List.{List}
 use mathlib.Core.Bool.{Bool, true, false}
 use native.Mathlib.Omega.{arith}
 use Rattle.refusals.specs.declared.Refusal.{Refusal}
-use Rattle.refusals.specs.Said.{Said, demand, answers, refuses, onward, refusal}
+use Rattle.refusals.specs.Said.{Said, demand, answers, onward, refusal}
 
 -- a call that refuses does not answer
 pub not-both : {A : Type 0} {a : A} {why : Refusal} → refusal why ≡ answers a → ⊥

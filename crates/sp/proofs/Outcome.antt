@@ -10,8 +10,8 @@ use lib.Dec.{leb}
 use Rattle.tables.proofs.Lent.{leaves-over}
 use Rattle.refusals.specs.declared.Refusal.{Refusal}
 use Rattle.refusals.specs.Numbers.{numbered}
-use Rattle.refusals.specs.Said.{Said, answers, refuses, refusal}
-use Rattle.refusals.proofs.Said.{passed, went-on, only-outcome-of, readFrom, asked-of}
+use Rattle.refusals.specs.Said.{Said, answers, refusal}
+use Rattle.refusals.proofs.Said.{went-on, only-outcome-of, readFrom, asked-of}
 use Rattle.sp.specs.declared.Run.{Run}
 use Rattle.sp.specs.declared.Demuxed.{Demuxed}
 use Rattle.detect.specs.declared.Recording.{Recording}

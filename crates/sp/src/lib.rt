@@ -88,8 +88,8 @@ fn write_run(
     carried
 }
 
-// The run of a DSS block.
-fn dss_run(file: &[u8], a: FilePlace, block: usize) -> Run
+// For the crates above too. The run of a DSS block.
+pub fn dss_run(file: &[u8], a: FilePlace, block: usize) -> Run
     requires { ⌜ Whole (now file) (a .0) (block + 1) × (block ≤ 2 ^ 32) ⌝ }
     ensures { λ r. ⌜ (r ≡ dssRun (now (file .entry)) (a .0) block) × (r .count ≤ 255) ⌝ }
 {

@@ -11,7 +11,7 @@ use Rattle.blocks.specs.Places.{streamAt}
 use Rattle.packets.specs.Walk.{reach}
 use Rattle.hold.specs.Held.{Holds}
 use Rattle.hold.specs.Between.{Next}
-use Rattle.hold.proofs.Headers.{announced-most}
+use Rattle.blocks.proofs.Headers.{announced-most}
 use Rattle.hold.proofs.Adding.{numbers, begun, block-fits, holds-now}
 use Rattle.hold.proofs.Ds2Block.{Counted, not-back, walking, walked}
 use borrow.Author.Needs.{needs}

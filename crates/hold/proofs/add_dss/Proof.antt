@@ -10,7 +10,7 @@ use Rattle.blocks.specs.Places.{streamAt}
 use Rattle.hold.specs.Held.{Holds}
 use Rattle.hold.specs.Between.{Next}
 use Rattle.hold.proofs.Ready.{ready-within}
-use Rattle.hold.proofs.Headers.{announced-most}
+use Rattle.blocks.proofs.Headers.{announced-most}
 use Rattle.hold.proofs.Adding.{numbers}
 use Rattle.hold.proofs.DssBlock.{few, dss-holds, ready-then, queued, left}
 use borrow.Author.Needs.{needs}

@@ -3,7 +3,7 @@
 use mathlib.Core.Path.{ap}
 use native.Mathlib.Omega.{arith}
 use Rattle.sp.specs.declared.Run.{Run}
-use Rattle.hold.proofs.Reaches.{reach-most}
+use Rattle.packets.proofs.Reaches.{reach-most}
 use Rattle.hold.proofs.Walks.{walk-near, walk-begun, walk-written}
 use borrow.Author.Needs.{needs}
 use Rattle.hold.proofs.write_walk.Statement.{statement}

@@ -1,7 +1,7 @@
 -- `hold::places::ends_at` meets its contract: its reads go no further than 42 bytes each.
 -- Assumes nothing.
 use native.Mathlib.Omega.{arith}
-use Rattle.hold.proofs.Reaches.{reach-most}
+use Rattle.packets.proofs.Reaches.{reach-most}
 use borrow.Author.Needs.{needs}
 use Rattle.hold.proofs.places.ends_at.Statement.{statement}
 use Rattle.hold.proofs.places.ends_at.Tie as tie

@@ -1,7 +1,7 @@
 -- `hold::places::part_of` meets its contract: its fields are those of the part.
 -- Assumes nothing.
 use native.Mathlib.Omega.{arith}
-use Rattle.hold.proofs.Reaches.{reach-most}
+use Rattle.packets.proofs.Reaches.{reach-most}
 use borrow.Author.Needs.{needs}
 use Rattle.hold.proofs.places.part_of.Statement.{statement}
 use Rattle.hold.proofs.places.part_of.Tie as tie

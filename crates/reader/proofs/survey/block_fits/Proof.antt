@@ -3,7 +3,7 @@
 use mathlib.Core.Path.{ap, _∙_}
 use native.Mathlib.Omega.{arith}
 use Rattle.packets.specs.Walk.{reach}
-use Rattle.hold.proofs.Reaches.{reach-most}
+use Rattle.packets.proofs.Reaches.{reach-most}
 use Rattle.reader.proofs.Surveying.{base-is}
 use borrow.Author.Needs.{needs}
 use Rattle.reader.proofs.survey.block_fits.Statement.{statement}

@@ -1,0 +1,386 @@
+// One file: what its whole reading hands out, what its tally says, and what a reader hands out that is fed it in pieces.
+// Rests on all the calls, and on trials.
+use crate::Tried;
+use crate::files::Made;
+use libc::STDOUT_FILENO;
+use reader::Reader;
+use sp::Demuxed;
+use tally::Figures;
+use tally::HandedOut;
+use tally::Tallied;
+use trials::bytes::Gathered;
+use trials::feeding::Cuts;
+use trials::feeding::Fed;
+use trials::feeding::Sums;
+use trials::feeding::none;
+use trials::feeding::with_answer;
+ghost use Rattle.reader.specs.State.{Reached};
+
+// What a file's whole reading says: how many frames it announces, and what it hands out, with digests of packets and counts.
+pub struct WholeReading {
+    pub number: u64,
+    pub beside: u64,
+    pub announced: usize,
+    pub out: HandedOut,
+    pub bytes: u64,
+    pub counts: u64,
+}
+
+fn say(text: &[u8], number: u64) {
+    io::write_all(STDOUT_FILENO, text);
+    io::print_decimal(STDOUT_FILENO, number);
+}
+
+// A line for a disagreement.
+pub fn complain(number: u64, what: &[u8], expected: u64, got: u64) {
+    say(b"file ", number);
+    io::write_all(STDOUT_FILENO, b": ");
+    io::write_all(STDOUT_FILENO, what);
+    say(b" expected ", expected);
+    say(b", got ", got);
+    io::write_all(STDOUT_FILENO, b"\n");
+}
+
+// 1 and a line where two numbers differ, and 0 where they are the same.
+fn differs(number: u64, what: &[u8], expected: u64, got: u64) -> usize {
+    if expected == got {
+        return 0;
+    }
+    complain(number, what, expected, got);
+    1
+}
+
+fn byte(file: &[u8], at: usize) -> usize {
+    if at < file.len() {
+        tables::wide(file[at])
+    } else {
+        0
+    }
+}
+
+// How many of some packets in a row are short, by their counts.
+fn short_in_run(counts: &[u8], first: usize, many: usize, swap: bool) -> usize {
+    let mut short: usize = 0;
+    let mut k = 0;
+    while k < many {
+        let size = if (k % 2 == 0) == swap { 40 } else { 42 };
+        if byte(counts, trials::sum(first, k)) != size {
+            short = trials::sum(short, 1);
+        }
+        k += 1;
+    }
+    short
+}
+
+// How many packets of a DSS file are short: each block begins by its own flag.
+fn short_in_dss(file: &[u8], made: Made, counts: &[u8]) -> usize {
+    let mut short: usize = 0;
+    let mut first: usize = 0;
+    let mut place = made.start;
+    let mut block = 0;
+    while block < made.blocks {
+        let many = byte(file, trials::sum(place, 2));
+        let swap = 128 <= byte(file, place);
+        short = trials::sum(short, short_in_run(counts, first, many, swap));
+        first = trials::sum(first, many);
+        place = trials::sum(place, 512);
+        block += 1;
+    }
+    short
+}
+
+// How many file bytes so many packets have.
+fn sum_of(counts: &[u8], many: usize) -> usize {
+    let mut sum: usize = 0;
+    let mut k = 0;
+    while k < many {
+        sum = trials::sum(sum, byte(counts, k));
+        k += 1;
+    }
+    sum
+}
+
+fn short_in(file: &[u8], made: Made, counts: &[u8], many: usize) -> usize {
+    if made.kind == 0 {
+        return short_in_run(counts, 0, many, 128 <= byte(file, made.start));
+    }
+    short_in_dss(file, made, counts)
+}
+
+// The whole call for a kind: DS2 for 0, and else DSS.
+fn demux_sp(file: &[u8], kind: u64, out: &mut [u8], counts: &mut [u8]) -> Demuxed {
+    if kind == 0 {
+        return sp::demux_ds2(file, out, counts);
+    }
+    sp::demux_dss(file, out, counts)
+}
+
+// The whole SP reading.
+fn whole_sp(file: &[u8], made: Made, out: &mut [u8], counts: &mut [u8]) -> WholeReading {
+    let answer = demux_sp(file, made.kind, out, counts);
+    let sums = with_answer(none(), answer, 0, out, counts);
+    WholeReading {
+        number: sums.number,
+        beside: sums.beside,
+        announced: sums.packets,
+        out: HandedOut {
+            many: sums.packets,
+            short: short_in(file, made, counts, sums.packets),
+            bytes: sum_of(counts, sums.packets) as u64,
+        },
+        bytes: sums.bytes,
+        counts: sums.counts,
+    }
+}
+
+fn refused(number: u64, beside: u64) -> WholeReading {
+    WholeReading {
+        number,
+        beside,
+        announced: 0,
+        out: HandedOut {
+            many: 0,
+            short: 0,
+            bytes: 0,
+        },
+        bytes: 0,
+        counts: 0,
+    }
+}
+
+fn gathered(announced: usize, all: Gathered) -> WholeReading {
+    WholeReading {
+        number: 0,
+        beside: 0,
+        announced,
+        out: HandedOut {
+            many: all.many,
+            short: all.short,
+            bytes: all.bytes as u64,
+        },
+        bytes: all.digest,
+        counts: 0,
+    }
+}
+
+fn whole_qp(file: &[u8]) -> WholeReading {
+    let mut table = [0u32; 256];
+    let answer = qp::demux_ds2_qp(file, &mut table);
+    match answer {
+        qp::Demuxed::Refused(why) => refused(why.number, why.beside),
+        qp::Demuxed::Segments(totals) => gathered(
+            totals.announced,
+            trials::bytes::of_segments(file, &table, totals.segments),
+        ),
+    }
+}
+
+fn whole_qp7(file: &[u8]) -> WholeReading {
+    let mut records = [0u32; 512];
+    let mut segments = [0u32; 256];
+    let answer = qp7::demux_ds2_qp7(file, &mut records, &mut segments);
+    match answer {
+        qp7::Demuxed::Refused(why) => refused(why.number, why.beside),
+        qp7::Demuxed::Tables(totals) => gathered(
+            totals.records,
+            trials::bytes::of_records(file, &records, &segments, totals.segments),
+        ),
+    }
+}
+
+// The whole reading of any file.
+pub fn whole(file: &[u8], made: Made, out: &mut [u8], counts: &mut [u8]) -> WholeReading {
+    if made.kind == 6 {
+        return whole_qp(file);
+    }
+    if made.kind == 7 {
+        return whole_qp7(file);
+    }
+    whole_sp(file, made, out, counts)
+}
+
+// How many numbers of what is handed out are not the whole reading's.
+fn out_differs(number: u64, expected: HandedOut, got: HandedOut) -> usize {
+    let mut wrong = differs(
+        number,
+        b"tally, handed out",
+        expected.many as u64,
+        got.many as u64,
+    );
+    wrong = trials::sum(
+        wrong,
+        differs(
+            number,
+            b"tally, short",
+            expected.short as u64,
+            got.short as u64,
+        ),
+    );
+    trials::sum(
+        wrong,
+        differs(number, b"tally, bytes", expected.bytes, got.bytes),
+    )
+}
+
+// How many figures of a tally are not the whole reading's.
+fn figures_differ(number: u64, made: Made, whole: WholeReading, figures: Figures) -> usize {
+    let mut wrong = differs(number, b"tally, refusal", whole.number, 0);
+    let start = figures.start.0;
+    wrong = trials::sum(
+        wrong,
+        differs(number, b"tally, start", made.start as u64, start as u64),
+    );
+    let blocks = figures.blocks;
+    wrong = trials::sum(
+        wrong,
+        differs(number, b"tally, blocks", made.blocks as u64, blocks as u64),
+    );
+    wrong = trials::sum(
+        wrong,
+        differs(
+            number,
+            b"tally, announced",
+            whole.announced as u64,
+            figures.announced as u64,
+        ),
+    );
+    let expected = whole.out;
+    let got = figures.out;
+    trials::sum(wrong, out_differs(number, expected, got))
+}
+
+// How many numbers of the tally are not the whole reading's. A file of QP or QP7 blocks that announce nothing is read as SP: there is nothing
+// to compare.
+pub fn tally_differs(number: u64, file: &[u8], made: Made, whole: WholeReading) -> usize {
+    if whole.number == 11 {
+        return 0;
+    }
+    let answer = tally::tally(file);
+    match answer {
+        Tallied::Refused(why) => trials::sum(
+            differs(number, b"tally, refusal", whole.number, why.number),
+            differs(number, b"tally, beside", whole.beside, why.beside),
+        ),
+        Tallied::Counted(figures) => figures_differ(number, made, whole, figures),
+    }
+}
+
+// The lenient end, asked again while frames are owed.
+fn drain(reader: Reader, before: Sums, out: &mut [u8], counts: &mut [u8]) -> Sums
+    requires { ⌜ Reached reader ⌝ }
+{
+    let mut draining = reader;
+    let mut sums = before;
+    let mut turns: usize = 0;
+    while turns < 10000 && 0 < draining.owed() {
+        let step = draining.lenient_end(out, counts);
+        let answer = step.answer;
+        draining = step.reader;
+        sums = with_answer(sums, answer, 0, out, counts);
+        turns += 1;
+    }
+    sums
+}
+
+// What the strict end is to say: 13 in a block, 14 with frames owed, and else nothing.
+fn strict_differs(number: u64, reader: Reader, cut: usize) -> usize
+    requires { ⌜ Reached reader ⌝ }
+{
+    let owed = reader.owed();
+    let step = reader.strict_end();
+    let answer = step.answer;
+    let none = Sums {
+        taken: 0,
+        packets: 0,
+        pieces: 0,
+        bytes: 0,
+        counts: 0,
+        number: 0,
+        beside: 0,
+    };
+    let empty: [u8; 0] = [0u8; 0];
+    let said = with_answer(none, answer, 0, &empty, &empty);
+    if cut != 0 {
+        return differs(number, b"strict end, bytes", cut as u64, said.beside);
+    }
+    differs(number, b"strict end, owed", owed as u64, said.beside)
+}
+
+// What pieces and a drained end hand out, against the whole reading.
+fn pieces_differ(number: u64, whole: WholeReading, sums: Sums) -> usize {
+    let mut wrong = differs(
+        number,
+        b"pieces, packets",
+        whole.out.many as u64,
+        sums.packets as u64,
+    );
+    wrong = trials::sum(
+        wrong,
+        differs(number, b"pieces, bytes", whole.bytes, sums.bytes),
+    );
+    trials::sum(
+        wrong,
+        differs(number, b"pieces, counts", whole.counts, sums.counts),
+    )
+}
+
+// Ends a reader that took the whole file.
+fn end_differs(
+    number: u64,
+    made: Made,
+    whole: WholeReading,
+    fed: Fed,
+    out: &mut [u8],
+    counts: &mut [u8],
+) -> usize
+    requires { ⌜ Reached (fed .reader) ⌝ }
+{
+    let reader = fed.reader;
+    let sums = fed.sums;
+    let counted = trials::sum(sums.packets, reader.owed());
+    let mut wrong = differs(
+        number,
+        b"handed out and owed",
+        whole.announced as u64,
+        counted as u64,
+    );
+    wrong = trials::sum(wrong, strict_differs(number, reader, made.cut));
+    let all = drain(reader, sums, out, counts);
+    trials::sum(wrong, pieces_differ(number, whole, all))
+}
+
+fn with_cut(tried: Tried, sums: Sums, seven: usize, wrong: usize) -> Tried {
+    Tried {
+        files: tried.files,
+        cuts: trials::sum(tried.cuts, 1),
+        packets: trials::sum(tried.packets, sums.packets),
+        entries: tried.entries,
+        sevens: trials::sum(tried.sevens, seven),
+        refused: tried.refused,
+        wrong: trials::sum(tried.wrong, wrong),
+    }
+}
+
+// One file cut in one way. Only a DS2 piece may be refused, and only by 7.
+pub fn cut_differs(
+    tried: Tried,
+    number: u64,
+    file: &[u8],
+    made: Made,
+    whole: WholeReading,
+    cuts: Cuts,
+    out: &mut [u8],
+    counts: &mut [u8],
+) -> Tried {
+    let step = Reader::open(made.kind);
+    let opened = step.reader;
+    let fed = trials::feeding::feed(opened, file, cuts, out, counts);
+    let sums = fed.sums;
+    if sums.number != 0 {
+        let seven = if made.kind == 0 { 7 } else { 0 };
+        let wrong = differs(number, b"pieces, refusal", seven, sums.number);
+        return with_cut(tried, sums, 1, wrong);
+    }
+    let wrong = end_differs(number, made, whole, fed, out, counts);
+    with_cut(tried, sums, 0, wrong)
+}

@@ -1,0 +1,100 @@
+-- What holds of `tally` for every file, beyond the contract or drawn from it. Each statement stands under a sentence that says it; the
+-- laws that carry them are in the files beside this one. Assumes nothing.
+use Prim.Native.Nat.{ℕ, _+_, _≤_}
+use mathlib.Core.Path.{_≡_, refl, sym, ap, _∙_}
+use mathlib.Core.List.{List}
+use mathlib.Core.Bool.{not}
+use mathlib.Core.Logic.{_⊎_, ⊎-elim}
+use Rattle.tables.specs.Settled.{SettledResult}
+use Rattle.refusals.specs.declared.Refusal.{Refusal}
+use Rattle.refusals.specs.Said.{answers, refusal}
+use Rattle.refusals.proofs.Said.{went-on, for-the-answer, only-one, readFrom}
+use Rattle.magic.specs.Magics.{namesDss}
+use Rattle.detect.specs.declared.Recording.{Recording}
+use Rattle.detect.specs.Admissions.{admission, announcedBy, streamIn}
+use Rattle.sp.proofs.ReadLists.{ds2-packets, dss-packets}
+use Rattle.qp.specs.Segments.{segmentsFrom}
+use Rattle.qp.specs.Handed.{missingFrom}
+use Rattle.qp.proofs.Kept.{totals-add-up, handed-or-missing}
+use Rattle.qp7.specs.Walk.{gatheredFrom}
+use Rattle.qp7.proofs.Keeping.{records-many}
+use Rattle.tally.specs.declared.HandedOut.{HandedOut}
+use Rattle.tally.specs.declared.FileKind.{FileKind}
+use Rattle.tally.specs.declared.FileKind.the-variants.{DssSp, Ds2Sp, Ds2Qp, Ds2Qp7}
+use Rattle.tally.specs.declared.Figures.{Figures}
+use Rattle.tally.specs.declared.Tallied.{Tallied}
+use Rattle.tally.specs.declared.Tallied.the-variants.{Counted, Refused}
+use Rattle.tally.specs.HandedOut.{recordsOut}
+use Rattle.tally.specs.Tallies.{handedBy, tallied, talliedSays}
+use Rattle.tally.specs.Agreement.{kindFor, wholeOut, talliedOut}
+use Rattle.tally.proofs.Agreeing.{agrees, counting}
+use Rattle.tally.proofs.Refusing.{tallying}
+use Rattle.tally.proofs.tally.Kinds as tally
+use Rattle.tally.proofs.tally.Reads as tally-reads
+
+-- The tally says of every file what the whole reading of its kind hands out, and refuses exactly as that reading does.
+pub tally-is-the-reading : (f : List ℕ) → talliedOut f ≡ wholeOut (kindFor f) f
+tally-is-the-reading f = agrees f
+
+module _ (f : List ℕ) (figures : Figures) (says : tallied f ≡ answers figures) where
+  -- The kind is the file's, and the other numbers are those of the recording that is admitted: where its audio starts, its whole blocks,
+  -- and how many frames they announce.
+  pub what-is-tallied : (figures .kind ≡ kindFor f)
+      × ((rec : Recording) × (admission f (namesDss f) (not (namesDss f)) ≡ answers rec) × (figures .start ≡ rec .start)
+      × (figures .blocks ≡ rec .blocks) × (figures .announced ≡ announcedBy f rec))
+  what-is-tallied =
+      let c = counting f figures says in
+      (c .kind-is, (c .rec, c .taken, c .start-is, c .blocks-are, c .announced-are))
+
+  -- what its recording hands out, read by this kind
+  handed-by : (kind : FileKind) → figures .kind ≡ kind → handedBy kind f (counting f figures says .rec) ≡ answers (figures .out)
+  handed-by kind is = let c = counting f figures says in ap (λ (k : FileKind). handedBy k f (c .rec)) (sym is) ∙ c .handed
+
+  -- An SP recording hands out all packets that it announces.
+  pub all-packets : (figures .kind ≡ DssSp) ⊎ (figures .kind ≡ Ds2Sp) → figures .out .many ≡ figures .announced
+  all-packets =
+      let c = counting f figures says in
+      ⊎-elim
+      (λ dss. for-the-answer AsAnnounced (handed-by DssSp dss) (dss-packets f (c .rec .start .0) (c .rec .blocks) ∙ sym (c .announced-are)))
+      (λ ds2. for-the-answer AsAnnounced (handed-by Ds2Sp ds2) (ds2-packets f (c .rec .start .0) (c .rec .blocks) ∙ sym (c .announced-are)))
+    where
+      AsAnnounced : HandedOut → Type 0
+      AsAnnounced out = out .many ≡ figures .announced
+
+  -- A QP recording hands out all frames that it announces, but for those that are missing from its segments.
+  pub frames-and-missing : figures .kind ≡ Ds2Qp
+      → (rec : Recording) × (admission f (namesDss f) (not (namesDss f)) ≡ answers rec)
+      × (figures .out .many + missingFrom (segmentsFrom f rec) ≡ figures .announced)
+  frames-and-missing is =
+      let c = counting f figures says in
+      let rec = c .rec in (
+        rec,
+        c .taken,
+        for-the-answer (λ (out : HandedOut). out .many + missingFrom (segmentsFrom f rec) ≡ figures .announced) (handed-by Ds2Qp is)
+            (handed-or-missing (segmentsFrom f rec)
+            ∙ totals-add-up f (rec .start .0) (rec .blocks)
+            ∙ sym (c .announced-are)),
+      )
+
+  -- A QP7 recording hands out all records that it announces.
+  pub all-records : figures .kind ≡ Ds2Qp7 → figures .out .many ≡ figures .announced
+  all-records is =
+      let c = counting f figures says in
+      let rec = c .rec in
+      let w = went-on (gatheredFrom f rec) (λ g. answers (recordsOut (streamIn f rec) (g .records))) (handed-by Ds2Qp7 is) in
+      for-the-answer (λ (out : HandedOut). out .many ≡ figures .announced) (w .2)
+      (records-many f rec (w .0) (w .1) ∙ sym (c .announced-are))
+
+-- A refusal is by 1, 2, 3, 4 or 5.
+pub refused-by : (f : List ℕ) (why : Refusal) → tallied f ≡ refusal why → (1 ≤ why .number) × (why .number ≤ 5)
+refused-by f why e = tallying f why e
+
+-- an answer is read back from what it says
+tallied-back : (x : Tallied) → readFrom Counted Refused (talliedSays x) ≡ x
+tallied-back (Counted figures) = refl
+tallied-back (Refused why) = refl
+
+-- Two outcomes of `tally` that its contract allows for the same arguments are equal. The contract is the one in the source, as the check
+-- reads it.
+pub tally-settled : SettledResult 1 tally.ps tally.r tally-reads.Post
+tally-settled κs a x y s t p q = only-one talliedSays (readFrom Counted Refused) tallied-back x y _ p q

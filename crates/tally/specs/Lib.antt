@@ -1,0 +1,4 @@
+-- The definitions of this crate, a file for each idea. They rest on those of the crates below.
+pub mod HandedOut
+pub mod Tallies
+pub mod Agreement

@@ -1,0 +1,94 @@
+-- `trials::feeding::feed` meets its contract: each piece gives back a reached reader, and ends further on in the file.
+-- Assumes nothing.
+use Prim.Native.Nat.{_-_}
+use mathlib.Core.Path.{_≡_}
+use lib.ListN.{length}
+use Rattle.reader.specs.State.{Reached}
+use Rattle.reader.proofs.Total.{reached-piece}
+use borrow.Author.Needs.{needs}
+use Rattle.trials.proofs.feeding.feed.Statement.{statement}
+use Rattle.trials.proofs.feeding.feed.Tie as tie
+
+abbrev Inv-loop : tie.InvT-loop
+Inv-loop file cuts out₀ counts₀ fed₀ sums₀ at₀ out counts fed sums at = Reached fed × (length out ≡ length out₀) × (length counts ≡ length counts₀)
+
+abbrev μ-loop : tie.MeasureT-loop
+μ-loop file cuts out₀ counts₀ fed₀ sums₀ at₀ out counts fed sums at = length file - at
+
+none-requires : tie.Need-none-requires Inv-loop μ-loop
+none-requires c κs = search needs
+
+loop-holds : tie.Need-loop-holds Inv-loop μ-loop
+loop-holds c = search needs
+
+piece-end-requires : tie.Need-piece-end-requires Inv-loop μ-loop
+piece-end-requires c κs = search needs
+
+sub-piece : tie.Need-sub-piece Inv-loop μ-loop
+sub-piece c = search needs
+
+part-piece-start : tie.Need-part-piece-start Inv-loop μ-loop
+part-piece-start c = search needs
+
+part-piece-end : tie.Need-part-piece-end Inv-loop μ-loop
+part-piece-end c = search needs
+
+piece-requires : tie.Need-piece-requires Inv-loop μ-loop
+piece-requires c κs = search needs
+
+sub-with-answer : tie.Need-sub-with-answer Inv-loop μ-loop
+sub-with-answer c = search needs
+
+with-answer-requires : tie.Need-with-answer-requires Inv-loop μ-loop
+with-answer-requires c κs = search needs
+
+loop-less : tie.Need-loop-less Inv-loop μ-loop
+loop-less c = search needs
+
+loop-again : tie.Need-loop-again Inv-loop μ-loop
+loop-again c =
+    let p = c .before .before .before .before .before .before .before .before in
+    let l = p .before .before .before .before .before .before .before .before .loop in
+    (reached-piece (l .inv .0) (p .piece .ensures), search needs, search needs)
+
+same-length : tie.Need-same-length Inv-loop μ-loop
+same-length c = search needs
+
+same-length-2 : tie.Need-same-length-2 Inv-loop μ-loop
+same-length-2 c = search needs
+
+returns : tie.Need-returns Inv-loop μ-loop
+returns c = search needs
+
+same-length-3 : tie.Need-same-length-3 Inv-loop μ-loop
+same-length-3 c = search needs
+
+same-length-4 : tie.Need-same-length-4 Inv-loop μ-loop
+same-length-4 c = search needs
+
+returns-2 : tie.Need-returns-2 Inv-loop μ-loop
+returns-2 c = search needs
+
+pub feed-spec : {M : Type 1} → statement M
+feed-spec =
+    tie.close
+    (tie.spec
+    Inv-loop
+    μ-loop
+    none-requires
+    loop-holds
+    piece-end-requires
+    sub-piece
+    part-piece-start
+    part-piece-end
+    piece-requires
+    sub-with-answer
+    with-answer-requires
+    loop-less
+    loop-again
+    same-length
+    same-length-2
+    returns
+    same-length-3
+    same-length-4
+    returns-2)

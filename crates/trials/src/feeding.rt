@@ -1,0 +1,106 @@
+// A recording fed to a reader piece by piece, with digests of what comes out. Rests on reader and on the rest of this crate.
+use reader::Reader;
+use sp::Demuxed;
+ghost use Prim.Native.Nat.{_≤_, _<_};
+ghost use Rattle.reader.specs.State.{Reached};
+
+// Where pieces end: at the first place, at the second, and then after some bytes that noise chooses, up to `step`; with a step of 0, at the
+// end.
+pub struct Cuts {
+    pub first: usize,
+    pub second: usize,
+    pub step: usize,
+}
+
+// What came out so far: bytes taken, packets, digests of the numbers of packets that each piece brought, of the packets and of their
+// counts; and the refusal that ended it, 0 and 0 where there was none.
+pub struct Sums {
+    pub taken: usize,
+    pub packets: usize,
+    pub pieces: u64,
+    pub bytes: u64,
+    pub counts: u64,
+    pub number: u64,
+    pub beside: u64,
+}
+
+// A reader and what came out of it.
+pub struct Fed {
+    pub reader: Reader,
+    pub sums: Sums,
+}
+
+// Before the first piece.
+pub fn none() -> Sums {
+    Sums {
+        taken: 0,
+        packets: 0,
+        pieces: 0,
+        bytes: 0,
+        counts: 0,
+        number: 0,
+        beside: 0,
+    }
+}
+
+// Where the piece that begins there ends.
+pub fn piece_end(cuts: Cuts, at: usize, long: usize) -> usize
+    requires { ⌜ at < long ⌝ }
+    ensures { λ r. ⌜ (at < r) × (r ≤ long) ⌝ }
+{
+    if at < cuts.first {
+        return tables::lesser(cuts.first, long);
+    }
+    if at < cuts.second {
+        return tables::lesser(cuts.second, long);
+    }
+    if cuts.step == 0 {
+        return long;
+    }
+    let state = crate::noise(std::num::wrapping_add_u64(at as u64, cuts.step as u64));
+    let far = crate::below(state, cuts.step as u64) as usize;
+    at + 1 + tables::lesser(far, long - at - 1)
+}
+
+// With what a call answered that was given so many bytes, and left in lent memory.
+pub fn with_answer(sums: Sums, answer: Demuxed, taken: usize, out: &[u8], counts: &[u8]) -> Sums {
+    match answer {
+        Demuxed::Refused(why) => Sums {
+            taken: sums.taken,
+            packets: sums.packets,
+            pieces: sums.pieces,
+            bytes: sums.bytes,
+            counts: sums.counts,
+            number: why.number,
+            beside: why.beside,
+        },
+        Demuxed::Packets(n) => Sums {
+            taken: crate::sum(sums.taken, taken),
+            packets: crate::sum(sums.packets, n),
+            pieces: crate::mix(sums.pieces, n as u64),
+            bytes: crate::digest(sums.bytes, out, crate::packet_bytes(n)),
+            counts: crate::digest(sums.counts, counts, n),
+            number: 0,
+            beside: 0,
+        },
+    }
+}
+
+// Feeds a file to a reader, up to its end or to the first piece that is refused.
+pub fn feed(reader: Reader, file: &[u8], cuts: Cuts, out: &mut [u8], counts: &mut [u8]) -> Fed
+    requires { ⌜ Reached reader ⌝ }
+    ensures { λ r. ⌜ Reached (r .reader) ⌝ }
+{
+    let mut fed = reader;
+    let mut sums = none();
+    let mut at: usize = 0;
+    while at < file.len() && sums.number == 0 {
+        let end = piece_end(cuts, at, file.len());
+        let step = fed.piece(&file[at..end], out, counts);
+        let answer = step.answer;
+        fed = step.reader;
+        sums = with_answer(sums, answer, end - at, out, counts);
+        at = end;
+    }
+    Fed { reader: fed, sums }
+}

@@ -1,0 +1,39 @@
+-- `vectors::pieces::lenient` meets its contract: the lenient end gives back a reached reader.
+-- Assumes nothing.
+use Rattle.reader.proofs.Total.{reached-lenient}
+use borrow.Author.Needs.{needs}
+use Rattle.vectors.proofs.pieces.lenient.Statement.{statement}
+use Rattle.vectors.proofs.pieces.lenient.Tie as tie
+
+lenient-end-requires : tie.Need-lenient-end-requires
+lenient-end-requires c κs = search needs
+
+told-requires : tie.Need-told-requires
+told-requires c κs = search needs
+
+with-end-requires : tie.Need-with-end-requires
+with-end-requires c κs = search needs
+
+late-requires : tie.Need-late-requires
+late-requires c κs = search reached-lenient
+
+same-length : tie.Need-same-length
+same-length c = search needs
+
+same-length-2 : tie.Need-same-length-2
+same-length-2 c = search needs
+
+returns : tie.Need-returns
+returns c = search needs
+
+pub lenient-spec : {M : Type 1} → statement M
+lenient-spec =
+    tie.close
+    (tie.spec
+    lenient-end-requires
+    told-requires
+    with-end-requires
+    late-requires
+    same-length
+    same-length-2
+    returns)

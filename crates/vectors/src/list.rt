@@ -1,0 +1,119 @@
+// The list: numbers in text, and what is expected against what came. Rests on io, for the lines that it writes.
+use libc::STDOUT_FILENO;
+
+// How far the list is read, in which case and at which answer, and how many answers and wrong ones there were.
+pub struct Seen {
+    pub at: usize,
+    pub case: u64,
+    pub answer: u64,
+    pub answers: usize,
+    pub wrong: usize,
+}
+
+// A number of the list, and where it ends.
+pub struct Number {
+    pub value: u64,
+    pub at: usize,
+}
+
+pub fn begin() -> Seen {
+    Seen {
+        at: 0,
+        case: 0,
+        answer: 0,
+        answers: 0,
+        wrong: 0,
+    }
+}
+
+fn is_digit(byte: u8) -> bool {
+    48 <= byte && byte <= 57
+}
+
+// Where the next number begins: everything that is no digit stands between numbers.
+fn skip(list: &[u8], from: usize) -> usize {
+    let mut at = from;
+    while at < list.len() && !is_digit(list[at]) {
+        at += 1;
+    }
+    at
+}
+
+// The value with a digit more. No number of the list comes near 18 digits.
+fn with_digit(value: u64, byte: u8) -> u64 {
+    value % 100000000000000000 * 10 + byte as u64 % 48
+}
+
+// The next number from a place on.
+pub fn next(list: &[u8], from: usize) -> Number {
+    let mut at = skip(list, from);
+    let mut value: u64 = 0;
+    while at < list.len() && is_digit(list[at]) {
+        value = with_digit(value, list[at]);
+        at += 1;
+    }
+    Number { value, at }
+}
+
+// Whether there is a number more.
+pub fn goes_on(list: &[u8], seen: Seen) -> bool {
+    skip(list, seen.at) < list.len()
+}
+
+fn say(text: &[u8], number: u64) {
+    io::write_all(STDOUT_FILENO, text);
+    io::print_decimal(STDOUT_FILENO, number);
+}
+
+// The case's number, with which it begins.
+pub fn with_case(list: &[u8], seen: Seen) -> Seen {
+    let number = next(list, seen.at);
+    Seen {
+        at: number.at,
+        case: number.value,
+        answer: 0,
+        answers: seen.answers,
+        wrong: seen.wrong,
+    }
+}
+
+// A parameter was read up to there.
+pub fn read_to(seen: Seen, at: usize) -> Seen {
+    Seen {
+        at,
+        case: seen.case,
+        answer: seen.answer,
+        answers: seen.answers,
+        wrong: seen.wrong,
+    }
+}
+
+// Holds an answer to the next number of the list.
+pub fn expect(list: &[u8], seen: Seen, got: u64) -> Seen {
+    let number = next(list, seen.at);
+    let answer = std::num::wrapping_add_u64(seen.answer, 1);
+    let mut wrong = seen.wrong;
+    if number.value != got {
+        say(b"case ", seen.case);
+        say(b" answer ", answer);
+        say(b": expected ", number.value);
+        say(b", got ", got);
+        io::write_all(STDOUT_FILENO, b"\n");
+        wrong = trials::sum(wrong, 1);
+    }
+    Seen {
+        at: number.at,
+        case: seen.case,
+        answer,
+        answers: trials::sum(seen.answers, 1),
+        wrong,
+    }
+}
+
+// The line at the end.
+pub fn conclude(seen: Seen) {
+    say(b"cases ", seen.case);
+    say(b", answers ", seen.answers as u64);
+    say(b", wrong ", seen.wrong as u64);
+    io::write_all(STDOUT_FILENO, b"\n");
+}

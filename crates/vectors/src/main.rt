@@ -1,0 +1,41 @@
+// Replays a fixed list of files with the answers that are expected for each, from standard input, and says how many cases there were and how
+// many answers were wrong; each wrong one gets a line. LIST.md says what the list holds, and make.py makes it.
+// Rests on all the calls, and on trials.
+use libc::STDIN_FILENO;
+use libc::STDOUT_FILENO;
+
+// The list and what is expected.
+mod list;
+
+// The calls on one file.
+mod calls;
+
+// Reading in pieces.
+mod pieces;
+
+// Runs through the list. A case has some numbers, so there are no more cases than bytes.
+fn run(list: &[u8]) {
+    let mut seen = list::begin();
+    let mut turns: usize = 0;
+    while turns < list.len() && list::goes_on(list, seen) {
+        seen = calls::one_case(list, seen);
+        turns += 1;
+    }
+    list::conclude(seen);
+}
+
+// Room for the list, and a byte more.
+fn room() -> [u8; 1048576] {
+    [0u8; 1048576]
+}
+
+fn main() {
+    let mut space = room();
+    let n = io::read_full(STDIN_FILENO, &mut space);
+    if n == 1048576 {
+        io::write_all(STDOUT_FILENO, b"the list is too long\n");
+        return;
+    }
+    run(&space[..n]);
+    pieces::limit();
+}
