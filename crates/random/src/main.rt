@@ -2,6 +2,7 @@
 // recordings, three-piece cuts around the edges of blocks, and many files with random cuts. One line with counts; each disagreement gets a
 // line of its own. Rests on all the calls, and on trials.
 use libc::STDOUT_FILENO;
+use trials::say;
 
 // Files from a number.
 mod files;
@@ -23,11 +24,6 @@ pub struct Tried {
     pub wrong: usize,
 }
 
-fn say(text: &[u8], number: usize) {
-    io::write_all(STDOUT_FILENO, text);
-    io::print_decimal(STDOUT_FILENO, number as u64);
-}
-
 fn main() {
     let mut tried = Tried {
         files: 0,
@@ -41,12 +37,12 @@ fn main() {
     tried = cuts::every_cut(tried);
     tried = cuts::at_edges(tried);
     tried = cuts::at_random(tried);
-    say(b"files ", tried.files);
-    say(b", cuts ", tried.cuts);
-    say(b", packets in pieces ", tried.packets);
-    say(b", frames and records ", tried.entries);
-    say(b", refused pieces ", tried.sevens);
-    say(b", refused files ", tried.refused);
-    say(b", wrong ", tried.wrong);
+    say(b"files ", tried.files as u64);
+    say(b", cuts ", tried.cuts as u64);
+    say(b", packets in pieces ", tried.packets as u64);
+    say(b", frames and records ", tried.entries as u64);
+    say(b", refused pieces ", tried.sevens as u64);
+    say(b", refused files ", tried.refused as u64);
+    say(b", wrong ", tried.wrong as u64);
     io::write_all(STDOUT_FILENO, b"\n");
 }

@@ -3,18 +3,17 @@
 use crate::Tried;
 use crate::files::Made;
 use libc::STDOUT_FILENO;
-use reader::Reader;
 use sp::Demuxed;
 use tally::Figures;
 use tally::HandedOut;
 use tally::Tallied;
 use trials::bytes::Gathered;
+use trials::ends::ToTheEnd;
 use trials::feeding::Cuts;
-use trials::feeding::Fed;
 use trials::feeding::Sums;
 use trials::feeding::none;
 use trials::feeding::with_answer;
-ghost use Rattle.reader.specs.State.{Reached};
+use trials::say;
 
 // What a file's whole reading says: how many frames it announces, and what it hands out, with digests of packets and counts.
 pub struct WholeReading {
@@ -24,11 +23,6 @@ pub struct WholeReading {
     pub out: HandedOut,
     pub bytes: u64,
     pub counts: u64,
-}
-
-fn say(text: &[u8], number: u64) {
-    io::write_all(STDOUT_FILENO, text);
-    io::print_decimal(STDOUT_FILENO, number);
 }
 
 // A line for a disagreement.
@@ -222,9 +216,30 @@ fn out_differs(number: u64, expected: HandedOut, got: HandedOut) -> usize {
     )
 }
 
+// The kind that a tally is to have: 0 DSSSP, 1 DS2SP, 2 DS2QP, 3 DS2QP7.
+fn kind_by(kind: u64) -> u64 {
+    if kind == 0 {
+        return 1;
+    }
+    if kind < 6 {
+        return 0;
+    }
+    kind % 4
+}
+
 // How many figures of a tally are not the whole reading's.
 fn figures_differ(number: u64, made: Made, whole: WholeReading, figures: Figures) -> usize {
     let mut wrong = differs(number, b"tally, refusal", whole.number, 0);
+    let kind = figures.kind;
+    wrong = trials::sum(
+        wrong,
+        differs(
+            number,
+            b"tally, kind",
+            kind_by(made.kind),
+            trials::kind_number(kind),
+        ),
+    );
     let start = figures.start.0;
     wrong = trials::sum(
         wrong,
@@ -265,45 +280,20 @@ pub fn tally_differs(number: u64, file: &[u8], made: Made, whole: WholeReading) 
     }
 }
 
-// The lenient end, asked again while frames are owed.
-fn drain(reader: Reader, before: Sums, out: &mut [u8], counts: &mut [u8]) -> Sums
-    requires { ⌜ Reached reader ⌝ }
-{
-    let mut draining = reader;
-    let mut sums = before;
-    let mut turns: usize = 0;
-    while turns < 10000 && 0 < draining.owed() {
-        let step = draining.lenient_end(out, counts);
-        let answer = step.answer;
-        draining = step.reader;
-        sums = with_answer(sums, answer, 0, out, counts);
-        turns += 1;
-    }
-    sums
-}
-
-// What the strict end is to say: 13 in a block, 14 with frames owed, and else nothing.
-fn strict_differs(number: u64, reader: Reader, cut: usize) -> usize
-    requires { ⌜ Reached reader ⌝ }
-{
-    let owed = reader.owed();
-    let step = reader.strict_end();
-    let answer = step.answer;
-    let none = Sums {
-        taken: 0,
-        packets: 0,
-        pieces: 0,
-        bytes: 0,
-        counts: 0,
-        number: 0,
-        beside: 0,
+// What the strict end says: 13 inside a block, with the bytes of it, and else 14 with the frames owed, if there are any.
+fn strict_differs(number: u64, cut: usize, owed: usize, said: Sums) -> usize {
+    let expected = if cut != 0 {
+        13
+    } else if owed != 0 {
+        14
+    } else {
+        0
     };
-    let empty: [u8; 0] = [0u8; 0];
-    let said = with_answer(none, answer, 0, &empty, &empty);
-    if cut != 0 {
-        return differs(number, b"strict end, bytes", cut as u64, said.beside);
-    }
-    differs(number, b"strict end, owed", owed as u64, said.beside)
+    let beside = if cut != 0 { cut } else { owed };
+    trials::sum(
+        differs(number, b"strict end", expected, said.number),
+        differs(number, b"strict end, beside", beside as u64, said.beside),
+    )
 }
 
 // What pieces and a drained end hand out, against the whole reading.
@@ -324,28 +314,23 @@ fn pieces_differ(number: u64, whole: WholeReading, sums: Sums) -> usize {
     )
 }
 
-// Ends a reader that took the whole file.
-fn end_differs(
-    number: u64,
-    made: Made,
-    whole: WholeReading,
-    fed: Fed,
-    out: &mut [u8],
-    counts: &mut [u8],
-) -> usize
-    requires { ⌜ Reached (fed .reader) ⌝ }
-{
-    let reader = fed.reader;
-    let sums = fed.sums;
-    let counted = trials::sum(sums.packets, reader.owed());
+// A reader that took the whole file and was drained: nothing announced goes uncounted before the end, and all packets are the whole
+// reading's after it.
+fn end_differs(number: u64, made: Made, whole: WholeReading, drained: ToTheEnd) -> usize {
+    let came = drained.came;
+    let strict = drained.strict;
+    let all = drained.all;
+    let counted = trials::sum(came.packets, drained.owed);
     let mut wrong = differs(
         number,
         b"handed out and owed",
         whole.announced as u64,
         counted as u64,
     );
-    wrong = trials::sum(wrong, strict_differs(number, reader, made.cut));
-    let all = drain(reader, sums, out, counts);
+    wrong = trials::sum(
+        wrong,
+        strict_differs(number, made.cut, drained.owed, strict),
+    );
     trials::sum(wrong, pieces_differ(number, whole, all))
 }
 
@@ -372,15 +357,13 @@ pub fn cut_differs(
     out: &mut [u8],
     counts: &mut [u8],
 ) -> Tried {
-    let step = Reader::open(made.kind);
-    let opened = step.reader;
-    let fed = trials::feeding::feed(opened, file, cuts, out, counts);
-    let sums = fed.sums;
-    if sums.number != 0 {
+    let drained = trials::ends::drained(made.kind, file, cuts, out, counts);
+    let came = drained.came;
+    if came.number != 0 {
         let seven = if made.kind == 0 { 7 } else { 0 };
-        let wrong = differs(number, b"pieces, refusal", seven, sums.number);
-        return with_cut(tried, sums, 1, wrong);
+        let wrong = differs(number, b"pieces, refusal", seven, came.number);
+        return with_cut(tried, came, 1, wrong);
     }
-    let wrong = end_differs(number, made, whole, fed, out, counts);
-    with_cut(tried, sums, 0, wrong)
+    let wrong = end_differs(number, made, whole, drained);
+    with_cut(tried, came, 0, wrong)
 }

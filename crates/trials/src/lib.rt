@@ -1,12 +1,33 @@
 // What the testing programs share: files made from a few numbers, digests of what was handed out, and a recording fed to a reader in
 // pieces. A test that goes wrong is to be seen, so nothing here demands anything of lent memory: what lies outside is left out.
 // Rests on all the calls that are tested.
+use libc::STDOUT_FILENO;
+use tally::FileKind;
 
 // Frames and records with their bytes.
 pub mod bytes;
 
 // A reader fed in pieces.
 pub mod feeding;
+
+// A reader opened, fed and ended.
+pub mod ends;
+
+// Writes a text and a number.
+pub fn say(text: &[u8], number: u64) {
+    io::write_all(STDOUT_FILENO, text);
+    io::print_decimal(STDOUT_FILENO, number);
+}
+
+// A kind by its number: 0 DSSSP, 1 DS2SP, 2 DS2QP, 3 DS2QP7.
+pub fn kind_number(kind: FileKind) -> u64 {
+    match kind {
+        FileKind::DssSp => 0,
+        FileKind::Ds2Sp => 1,
+        FileKind::Ds2Qp => 2,
+        FileKind::Ds2Qp7 => 3,
+    }
+}
 
 // One step of the noise that fills files.
 pub fn noise(state: u64) -> u64 {

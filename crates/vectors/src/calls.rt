@@ -11,7 +11,6 @@ use frames::Fetched;
 use refusals::Refusal;
 use sp::Demuxed;
 use tally::Figures;
-use tally::FileKind;
 use tally::Tallied;
 use trials::feeding::Cuts;
 
@@ -340,15 +339,6 @@ fn payload(list: &[u8], before: Seen, file: &[u8], block: usize) -> Seen {
     seen
 }
 
-fn kind_number(kind: FileKind) -> u64 {
-    match kind {
-        FileKind::DssSp => 0,
-        FileKind::Ds2Sp => 1,
-        FileKind::Ds2Qp => 2,
-        FileKind::Ds2Qp7 => 3,
-    }
-}
-
 fn with_figures(list: &[u8], before: Seen, kind: u64, figures: Figures) -> Seen {
     let mut seen = refusal(list, before, 0, 0);
     seen = expect(list, seen, kind);
@@ -379,7 +369,7 @@ fn listed(list: &[u8], before: Seen, file: &[u8]) -> Seen {
         Tallied::Refused(why) => no_figures(list, seen, why),
         Tallied::Counted(figures) => {
             let kind = figures.kind;
-            with_figures(list, seen, kind_number(kind), figures)
+            with_figures(list, seen, trials::kind_number(kind), figures)
         }
     }
 }

@@ -1,5 +1,6 @@
 // The list: numbers in text, and what is expected against what came. Rests on io, for the lines that it writes.
 use libc::STDOUT_FILENO;
+use trials::say;
 
 // How far the list is read, in which case and at which answer, and how many answers and wrong ones there were.
 pub struct Seen {
@@ -58,11 +59,6 @@ pub fn next(list: &[u8], from: usize) -> Number {
 // Whether there is a number more.
 pub fn goes_on(list: &[u8], seen: Seen) -> bool {
     skip(list, seen.at) < list.len()
-}
-
-fn say(text: &[u8], number: u64) {
-    io::write_all(STDOUT_FILENO, text);
-    io::print_decimal(STDOUT_FILENO, number);
 }
 
 // The case's number, with which it begins.

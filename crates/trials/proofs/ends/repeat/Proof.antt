@@ -1,4 +1,4 @@
--- `vectors::pieces::repeat` meets its contract: each piece gives back a reached reader, and there are so many turns.
+-- `trials::ends::repeat` meets its contract: each piece gives back a reached reader, and there are so many turns.
 -- Assumes nothing.
 use Prim.Native.Nat.{_-_, _≤_}
 use mathlib.Core.Path.{_≡_}
@@ -6,8 +6,8 @@ use lib.ListN.{length}
 use Rattle.reader.specs.State.{Reached}
 use Rattle.reader.proofs.Total.{reached-piece}
 use borrow.Author.Needs.{needs}
-use Rattle.vectors.proofs.pieces.repeat.Statement.{statement}
-use Rattle.vectors.proofs.pieces.repeat.Tie as tie
+use Rattle.trials.proofs.ends.repeat.Statement.{statement}
+use Rattle.trials.proofs.ends.repeat.Tie as tie
 
 abbrev Inv-loop : tie.InvT-loop
 Inv-loop piece times out₀ counts₀ reader₀ sums₀ k₀ out counts reader sums k = Reached reader × (k ≤ times) × (length out ≡ length out₀) × (length counts ≡ length counts₀)

@@ -1,4 +1,4 @@
--- `random::readings::drain` meets its contract: each lenient end gives back a reached reader, and there are at most 10000 turns.
+-- `trials::ends::drain` meets its contract: each lenient end gives back a reached reader, and there are at most 10000 turns.
 -- Assumes nothing.
 use Prim.Native.Nat.{_-_, _≤_}
 use mathlib.Core.Path.{_≡_}
@@ -6,8 +6,8 @@ use lib.ListN.{length}
 use Rattle.reader.specs.State.{Reached}
 use Rattle.reader.proofs.Total.{reached-lenient}
 use borrow.Author.Needs.{needs}
-use Rattle.random.proofs.readings.drain.Statement.{statement}
-use Rattle.random.proofs.readings.drain.Tie as tie
+use Rattle.trials.proofs.ends.drain.Statement.{statement}
+use Rattle.trials.proofs.ends.drain.Tie as tie
 
 abbrev Inv-loop : tie.InvT-loop
 Inv-loop out₀ counts₀ draining₀ sums₀ turns₀ out counts draining sums turns = Reached draining × (turns ≤ 10000) × (length out ≡ length out₀) × (length counts ≡ length counts₀)

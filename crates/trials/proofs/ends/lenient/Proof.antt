@@ -1,9 +1,9 @@
--- `vectors::pieces::lenient` meets its contract: the lenient end gives back a reached reader.
+-- `trials::ends::lenient` meets its contract: the lenient end gives back a reached reader.
 -- Assumes nothing.
 use Rattle.reader.proofs.Total.{reached-lenient}
 use borrow.Author.Needs.{needs}
-use Rattle.vectors.proofs.pieces.lenient.Statement.{statement}
-use Rattle.vectors.proofs.pieces.lenient.Tie as tie
+use Rattle.trials.proofs.ends.lenient.Statement.{statement}
+use Rattle.trials.proofs.ends.lenient.Tie as tie
 
 lenient-end-requires : tie.Need-lenient-end-requires
 lenient-end-requires c κs = search needs
@@ -11,11 +11,11 @@ lenient-end-requires c κs = search needs
 told-requires : tie.Need-told-requires
 told-requires c κs = search needs
 
-with-end-requires : tie.Need-with-end-requires
-with-end-requires c κs = search needs
+owed-requires : tie.Need-owed-requires
+owed-requires c κs = search reached-lenient
 
-late-requires : tie.Need-late-requires
-late-requires c κs = search reached-lenient
+empty-piece-requires : tie.Need-empty-piece-requires
+empty-piece-requires c κs = search reached-lenient
 
 same-length : tie.Need-same-length
 same-length c = search needs
@@ -32,8 +32,8 @@ lenient-spec =
     (tie.spec
     lenient-end-requires
     told-requires
-    with-end-requires
-    late-requires
+    owed-requires
+    empty-piece-requires
     same-length
     same-length-2
     returns)
