@@ -1,7 +1,7 @@
 """listing.py PROGRAM LIST: tries the program `list` on the files of LIST, crates/vectors/stdin, and through slow pipes.
 
 Each file of the list is made anew and given to PROGRAM, and the line is held to the tally that the list has for it. Some go through a
-pipe that delivers them in small parts. Then what no list holds: no input, input past the limit that goes on and on, and input that
+pipe that delivers them in small parts. Then what no list holds: no input, input of a byte too many and of millions, and input that
 cannot be read. Prints how many files there were, and every line that is wrong.
 """
 import os
@@ -12,7 +12,7 @@ import time
 
 MOST = 65536
 NAMES = ["DSSSP", "DS2SP", "DS2QP", "DS2QP7"]
-TALLY = 58  # the tally's first number among a case's answers, which are 67
+TALLY = slice(58, 67)  # the tally among a case's answers
 
 
 def made(numbers: list) -> bytes:
@@ -37,7 +37,7 @@ def cases(path: str):
         groups = [group.split("\n") for group in text.read().strip().split("\n\n")]
     for _title, file, _asked, answers in groups:
         numbers = [int(n) for n in re.findall(r"\d+", file)]
-        tally = [int(n) for n in re.findall(r"\d+", answers)][TALLY:]
+        tally = [int(n) for n in re.findall(r"\d+", answers)][TALLY]
         line = f"refused {tally[0]} {tally[1]}" if tally[0] else " ".join([NAMES[tally[2]]] + [str(n) for n in tally[3:]])
         content = made(numbers[1:])
         yield numbers[0], content, f"refused 2 {MOST}" if len(content) > MOST else line
@@ -77,7 +77,7 @@ def main() -> int:
     expect("no input", listed(program, b""), "refused 1 0")
     expect("four bytes, one by one", listed_slowly(program, b"\1ds2", 1), "refused 3 1536")
     expect("one byte too many, slowly", listed_slowly(program, b"\2dss" + bytes(MOST - 3), 4099), f"refused 2 {MOST}")
-    expect("far too long", listed(program, b"\2dss" + bytes(MOST)), f"refused 2 {MOST}")
+    expect("far too long", listed(program, b"\2dss" + bytes(64 * MOST)), f"refused 2 {MOST}")
     folder = os.open(".", os.O_RDONLY)
     unread = subprocess.run([program], stdin=folder, stdout=subprocess.PIPE, stderr=subprocess.PIPE, check=False)
     if unread.stdout or not unread.stderr:

@@ -5,8 +5,9 @@ SOURCE_FOLDER is the original's folder `src`, with demux/mod.rs, demux/ds2.rs an
 script lays out the cases (every run writes the same bytes), works out every answer by its own model
 of the format's description, asks the original Rust through probe.rs, and stops with the case if the
 two differ where docs/DIFFERENCES.md names no difference. In the list an answer that the Rust gave has
-the letter `r`; one that only the description gives (refusals, file-byte counts, tables, tally, and all
-that the Rust cannot be asked or answers otherwise) has the letter `d`.
+the letter `r`, any other the letter `d`: refusals, the numbers beside them and file-byte counts always,
+though some are held to the Rust too; tables, most of the tally, and all that the Rust cannot be asked or
+answers otherwise. It also stops if some call is never refused by a number that it can give.
 
 The list has the description's examples, each magic, type, refusal and boundary, the scan, SP packets,
 QP, QP7, fetches, payloads, pieces, the hold, rooms, the inputs that show the Rust's faults, and then
@@ -42,7 +43,7 @@ def attempt(call, empty, *arguments):
         return refused.args, empty
 
 def good_header(h):
-    fixed = len(h) == 6 and (h[0], h[3], h[5]) == (0x0F, 0xFF, 0xFF)
+    fixed = len(h) >= 6 and (h[0], h[3], h[5]) == (0x0F, 0xFF, 0xFF)
     return fixed and h[2] > 0 and h[4] in (0, 1, 2, 3, 6, 7)
 
 def audio_start(file):
@@ -152,7 +153,7 @@ def read_qp(file, room):
     close()
     return blocks, fits(segments, room, 9)
 
-def read_qp7(file, room):
+def read_qp7(file, room, for_segments):
     """The records (place, bytes) and the segments: first record, records, reset."""
     blocks, records, segments, place = admit(file, DS2, "QP7"), [], [], 0
     for b, h in enumerate(blocks.headers + [bytes(6)]):  # the end closes a segment as a silent block does
@@ -168,7 +169,7 @@ def read_qp7(file, room):
                 raise Refused(5, place)
             records.append((place, blocks.stream[place:place + size]))
             place += size
-    return fits(records, room), segments
+    return fits(records, room), fits(segments, for_segments, 9)
 
 def tally(file):
     dss = file[1:4] == b"dss"
@@ -179,7 +180,7 @@ def tally(file):
         sizes = [(min(56, length - at), 56) for _, length, _, _ in read_qp(file, AMPLE)[1]
                  for at in range(0, length, 56)]
     else:
-        sizes = [(len(r), len(r)) for _, r in read_qp7(file, AMPLE)[0]]
+        sizes = [(len(r), len(r)) for _, r in read_qp7(file, AMPLE, AMPLE)[0]]
     kind = 0 if dss else 1 + ("SP", "QP", "QP7").index(blocks.reading)
     return [kind, blocks.start, len(blocks.headers), blocks.announced, len(sizes),
             sum(have < full for have, full in sizes), sum(have for have, _ in sizes)]
@@ -223,6 +224,7 @@ class Reader:
         self.strict = self.strict_end()
         self.goes_on = self.strict[0] == 3  # the lenient end is then refused too
         self.last = self.packets[self.out:][:room]
+        self.more = self.packets[self.out + len(self.last):][:room]  # if the lenient end is asked again
 
     def feed(self, case, blocks, room):
         states, before = self.states(blocks), 0
@@ -288,14 +290,20 @@ class Case:
         vars(self).update(dict(start=start, length=length, fill=1, seed=number, kind=kind, first=0, second=0,
                                step=number % 3 * number * 31 % 1900, place=number * 37 % max(100, length - start),
                                size=1 + number % 56, scratch=56 + number % 9,
-                               block=number % (len(self.headers) + 1)), **self.given)
+                               block=number % (len(self.headers) + 1), part=number % 9,
+                               probe=(start, start + BLOCK * (number % 3), 0, number * 37 % (length + 700))[number % 4]),
+                          **self.given)
         file = self.file()
         if "room" not in self.given:
             self.room = min(4096, max(0, self.room_needed(file) + self.spare))
+        for lent, unit in (("out", 42), ("counts", 1), ("table", 4), ("records", 1), ("segments", 3)):
+            vars(self).setdefault(lent, unit * self.room)
+        self.for_packets = min(self.out // 42, self.counts)
         return file
 
     def room_needed(self, file):
-        refusals = [attempt(call, None, file, 0)[0] for call in (read_dss, read_sp, read_qp, read_qp7)]
+        calls = (read_dss, 0), (read_sp, 0), (read_qp, 0), (read_qp7, 0, AMPLE), (read_qp7, AMPLE, 0)
+        refusals = [attempt(call, None, file, *room)[0] for call, *room in calls]
         reader = Reader(self, file, AMPLE)
         return max([beside for number, beside in refusals if number in (8, 9)] + reader.numbers + [reader.owed])
 
@@ -333,23 +341,23 @@ def bytes_of(found):
 def counts_of(found):
     return [p.count for p in found]
 
-def sp_answers(call, file, room):
-    refusal, found = attempt(call, [], file, room)
-    return [*refusal, len(found), lent(bytes_of(found), 42 * room, 64), lent(counts_of(found), room, 64)]
+def sp_answers(call, file, case):
+    refusal, found = attempt(call, [], file, case.for_packets)
+    return [*refusal, len(found), lent(bytes_of(found), case.out, 64), lent(counts_of(found), case.counts, 64)]
 
-def qp_answers(file, room):
-    refusal, (blocks, segments) = attempt(read_qp, (None, []), file, room)
+def qp_answers(file, case):
+    refusal, (blocks, segments) = attempt(read_qp, (None, []), file, case.table // 4)
     values = [v for start, length, frames, reset in segments
               for v in (frames, reset, *blocks.stream[start:start + length])]
     announced = 0 if refusal[0] else blocks.announced
-    return [*refusal, len(segments), announced, lent(sum(segments, ()), 4 * room, 16), digest(values)]
+    return [*refusal, len(segments), announced, lent(sum(segments, ()), case.table, 16), digest(values)]
 
-def qp7_answers(file, room):
-    refusal, (records, segments) = attempt(read_qp7, ([], []), file, room)
+def qp7_answers(file, case):
+    refusal, (records, segments) = attempt(read_qp7, ([], []), file, case.records, case.segments // 3)
     values = [v for first, count, reset in segments
               for v in (count, reset, *b"".join(r for _, r in records[first:first + count]))]
-    return [*refusal, len(records), len(segments), lent([place for place, _ in records], room, 16),
-            lent(sum(segments, ()), 3 * room, 16), digest(values)]
+    return [*refusal, len(records), len(segments), lent([place for place, _ in records], case.records, 16),
+            lent(sum(segments, ()), case.segments, 16), digest(values)]
 
 def reader_answers(case, r):
     out = r.packets[:r.out]
@@ -357,6 +365,26 @@ def reader_answers(case, r):
             r.out, digest(r.numbers), digest(bytes_of(out)), digest(counts_of(out)), r.owed,
             *r.strict, *(r.strict if r.goes_on else (0, 0)), len(r.last), digest(bytes_of(r.last)),
             digest(counts_of(r.last)), r.owed - len(r.last), 0 if r.goes_on else 6, 0, 0]
+
+def past(case, numbers):
+    """Digest of the lent bytes past those that each call used for so many packets; all are untouched."""
+    return digest(v for n in numbers for size in (case.out - 42 * n, case.counts - n) for v in [165] * min(64, size))
+
+def second_end(r):
+    """After the lenient end: the strict end, then the lenient end again."""
+    if r.goes_on:
+        return [*r.strict, *r.strict, 0, 0, 0, 0]
+    draining = (6, 0) if r.owed > len(r.last) else (0, 0)
+    left = r.owed - len(r.last) - len(r.more)
+    return [*draining, 0, 0, len(r.more), digest(bytes_of(r.more)), digest(counts_of(r.more)), left]
+
+def more_answers(case, file, r):
+    """At a place of the file; then of the reader; then where a frame stands."""
+    calls = r.numbers + [0] * (r.refused[0] > 0)
+    refusal, (across, where, _) = attempt(fetch, (0, 0, b""), file, case.place, case.size, case.scratch)
+    return [Blocks(file, case.probe).type, int(good_header(file[case.probe:][:case.part])),
+            0, 0 if r.known else 6, 0, past(case, calls), 0, 0 if r.strict[0] else 6,
+            past(case, [0 if r.goes_on else len(r.last)]), *second_end(r), *refusal, across, where]
 
 def part_answers(case, file):
     refusal, (across, where, shown) = attempt(fetch, (0, 0, b""), file, case.place, case.size, case.scratch)
@@ -368,21 +396,23 @@ def answers(case, file, reader):
     """The description's answers; the first one stands at 1."""
     start = audio_start(file)
     refusal, counts = attempt(tally, [0] * 7, file)
-    return [None, detect_format(file), start, Blocks(file, start).type, *sp_answers(read_dss, file, case.room),
-            *sp_answers(read_sp, file, case.room), *qp_answers(file, case.room), *qp7_answers(file, case.room),
-            *reader_answers(case, reader), *part_answers(case, file), digest(listing(file).encode()), *refusal, *counts]
+    return [None, detect_format(file), start, Blocks(file, start).type, *sp_answers(read_dss, file, case),
+            *sp_answers(read_sp, file, case), *qp_answers(file, case), *qp7_answers(file, case),
+            *reader_answers(case, reader), *part_answers(case, file), digest(listing(file).encode()), *refusal, *counts,
+            *more_answers(case, file, reader)]
 
 # ---- The Rust
 
 DEMUX_DSS, DEMUX_DS2, READ_PIECES = 1, 2, 4
 # Where the Rust answers: the answers, the call that gives them, when they must be the same.
-RUST = (((1, 2, 3), 0, lambda a: True), ((6, 7), DEMUX_DSS, lambda a: a[4] == 0),
+RUST = (((1, 2, 3, 68, 69), 0, lambda a: True), ((6, 7), DEMUX_DSS, lambda a: a[4] == 0),
         ((11, 12), DEMUX_DS2, lambda a: a[9] == 0), ((16, 17, 19), DEMUX_DS2, lambda a: a[14] == 0),
         ((22, 23, 26), DEMUX_DS2, lambda a: a[20] == 0), ((32, 33, 34), READ_PIECES, lambda a: a[30] == 0),
-        ((41, 42), READ_PIECES, lambda a: a[30] == a[39] == a[44] == 0))
-# Also compared, but the description's: refusals for which the Rust has an error, QP frames handed out.
+        ((41, 42), READ_PIECES, lambda a: a[30] == a[39] == a[44] == 0),
+        ((65,), DEMUX_DS2, lambda a: a[59] == 0 and a[61] > 1))
+# Also compared, but the description's: refusals for which the Rust has an error, the bytes of QP frames.
 ALSO = (((4,), DEMUX_DSS, lambda a: a[4] == 1), ((9, 14, 20), DEMUX_DS2, lambda a: a[9] == 1),
-        ((20, 21), DEMUX_DS2, lambda a: a[20] in (4, 5)), ((65, 67), DEMUX_DS2, lambda a: a[59] == 0 and a[61] > 1),
+        ((20, 21), DEMUX_DS2, lambda a: a[20] in (4, 5)), ((67,), DEMUX_DS2, lambda a: a[59] == 0 and a[61] > 1),
         ((32, 33, 34, 37, 39), READ_PIECES, lambda a: True))
 
 def allowed(file, reader):
@@ -410,7 +440,7 @@ def ask_rust(folder, requests):
 
 def request(case, file, reader):
     pieces = reader.ends[1:]
-    numbers = [len(file), allowed(file, reader), case.room, case.kind, len(pieces), *pieces]
+    numbers = [len(file), allowed(file, reader), case.out, case.kind, case.probe, case.part, len(pieces), *pieces]
     return struct.pack(f"<{len(numbers)}I", *numbers) + file
 
 # ---- The cases; a title's numbers are spelled out, for in the list only numbers have digits
@@ -472,6 +502,15 @@ def lengths():
         yield Case(f"{name(magic)}, length {length}", magic, [head(3, 2 + b) for b in range(6)], length=length)
     for length in (517, 518, 519, 1023, 1024, 1025, 1539, 1540, 1541):
         yield Case(f"good header at 512, length {length}", DS2_SEVEN, [GOOD], length=length, start=512)
+
+def headers_alone():
+    for part, header in product(range(9), (GOOD, BAD, SILENT)):
+        yield Case(f"part of {part}, {'gbs'[(GOOD, BAD, SILENT).index(header)]}", DS2_ONE, [header] * 2, probe=1536, part=part)
+    for i, value in ((0, 14), (0, 143), (2, 0), (2, 1), (3, 254), (5, 254), (4, 3), (4, 4), (4, 5), (4, 6), (4, 7), (4, 8)):
+        spoiled = GOOD[:i] + bytes([value]) + GOOD[i + 1:]
+        yield Case(f"header, byte {i} is {value}", NONE, [spoiled], probe=1536, part=6)
+    for probe in (0, 1, 1535, 1536, 1537, 2048, 2559, 2560, 2561, 4294967295):
+        yield Case(f"type from {probe}", DS2_ONE, [head(3, 0, 1), head(3, 2, 6)], probe=probe, part=6)
 
 def scan():
     for k in range(1, 129):
@@ -608,6 +647,16 @@ def rooms():
             yield Case(f"{title}, room {how}", magic, headers, kind=kind, spare=spare, step=0)
         for room in (0, 1, 2, 11, 12, 13):
             yield Case(f"{title}, room {room}", magic, headers, kind=kind, room=room, step=512)
+    # the smaller of output and counts decides, and what is left over by 42, 4 and 3 is no room
+    for title, magic, headers, kind in (("dss", DSS_TWO, [head(3, 12)] * 2, 2), ("sp", DS2_ONE, [head(0, 12)] * 2, 0),
+                                        ("lenient end", NONE, [head(0, 40)], 0), ("pieces", NONE, [head(0, 12)] * 3, 3)):
+        for out, counts in ((1007, 24), (1008, 24), (1049, 24), (1008, 23), (5000, 23), (1007, 99), (503, 12), (504, 12)):
+            yield Case(f"{title}, output {out}, counts {counts}", magic, headers, kind=kind, out=out, counts=counts, step=512)
+    for table in (7, 8, 9, 11, 12, 13, 15):
+        yield Case(f"qp, table {table}", DS2_ONE, [head(3, 2, 6)] * 3, table=table)
+    silent_between = [head(3, 3, 7), SILENT, head(3, 3, 7), SILENT, head(3, 1, 7)]
+    for records, segments in product((6, 7, 8), (6, 8, 9, 10)):
+        yield Case(f"qpseven, records {records}, segments {segments}", DS2_ONE, silent_between, records=records, segments=segments)
     for magic in (DSS_TWO, DS2_ONE):
         yield Case(f"{name(magic)}, over the largest room", magic, [head(3, 255)] * 17)
         yield Case(f"{name(magic)}, largest room full", magic, [head(3, 255)] * 16 + [head(3, 16)], room=4096)
@@ -646,14 +695,20 @@ def chance(count=230):
 
 # ---- The list
 
-GROUPS = (examples, magics_and_types, lengths, scan, sp_packets, silent_blocks, qp_segments, qp7_records,
+GROUPS = (examples, magics_and_types, lengths, headers_alone, scan, sp_packets, silent_blocks, qp_segments, qp7_records,
           fetches_and_payloads, pieces, other_kinds, hold, rooms, faults, chance)
-REFUSALS = {"demux_dss": 4, "SP": 9, "QP": 14, "QP7": 20, "open": 27, "piece": 30, "strict end": 37, "lenient end": 39,
-            "piece after": 45, "fetch": 48, "payload": 54, "tally": 59}
+# Where each call's refusal stands, and by which numbers it is refused somewhere in the list. Refusal 2 is not
+# among them: no file of the list is long enough.
+REFUSALS = {"demux_dss": (4, {0, 1, 3, 8}), "SP": (9, {0, 1, 3, 8, 11}), "QP": (14, {0, 1, 3, 9, 11}),
+            "QP7": (20, {0, 1, 3, 4, 5, 8, 9, 11}), "open": (27, {0, 10}), "piece": (30, {0, 6, 7, 8}),
+            "strict end": (37, {0, 3, 13, 14}), "lenient end": (39, {0, 3}), "piece after": (45, {0, 6}),
+            "fetch": (48, {0, 1, 3, 12}), "payload": (54, {0, 1, 3, 12}), "tally": (59, {0, 1, 3, 4, 5}),
+            "strict end after": (77, {0, 3, 6}), "frame_place": (85, {0, 1, 3, 12})}
 
 def entry(number, case, found, rust):
     file = [number, *case.magic, case.length, case.start, case.fill, case.seed, len(case.headers)]
-    asked = [case.kind, case.first, case.second, case.step, case.room, case.place, case.size, case.scratch, case.block]
+    asked = [case.kind, case.first, case.second, case.step, case.out, case.counts, case.table, case.records,
+             case.segments, case.place, case.size, case.scratch, case.block, case.probe, case.part]
     marked = ["dr"[place in rust] + str(found[place]) for place in range(1, len(found))]
     lines = [case.title], file + list(b"".join(case.headers)), asked, marked, []
     return "".join(" ".join(map(str, line)) + "\n" for line in lines)
@@ -663,14 +718,15 @@ def summary(entries, every):
     text = "".join(e.split("\n")[3] for e in entries)
     size = sum(map(len, entries))
     print(f"{len(entries)} cases, {size} bytes, {text.count('r')} r, {text.count('d')} d", file=sys.stderr)
-    for call, place in REFUSALS.items():
-        counts = sorted(collections.Counter(found[place] for found in every).items())
-        print(f"{call}:", ", ".join(f"{number} in {count}" for number, count in counts), file=sys.stderr)
+    for call, (place, given) in REFUSALS.items():
+        counts = collections.Counter(found[place] for found in every)
+        print(f"{call}:", ", ".join(f"{number} in {counts[number]}" for number in sorted(counts)), file=sys.stderr)
+        assert set(counts) == given, (call, given)
 
 def main():
     cases = [case for group in GROUPS for case in group()]
     files = [case.complete(number) for number, case in enumerate(cases, 1)]
-    readers = [Reader(case, file, case.room) for case, file in zip(cases, files)]
+    readers = [Reader(case, file, case.for_packets) for case, file in zip(cases, files)]
     given = ask_rust(pathlib.Path(sys.argv[1]), map(request, cases, files, readers))
     assert len(given) == len(cases) == len({case.title for case in cases})
     entries, every = [], list(map(answers, cases, files, readers))

@@ -4,9 +4,9 @@
 // leads to them, with an empty `grundig.rs`, since that part is not covered. The errors are our
 // own, for the original's need crates from a registry.
 //
-// A request is five u32 (little-endian): the file's length, which calls are allowed, the room, the
-// reader's kind, the number of its pieces; then a u32 for each piece (where it ends); then the
-// file. The answer is one line of pairs: the place of an answer in the list, and its value. A call
+// A request is seven u32 (little-endian): the file's length, which calls are allowed, the output's
+// length, the reader's kind, a place in the file and the length of a part there, the number of
+// pieces; then a u32 for each piece (where it ends); then the file. The answer is one line of pairs: the place of an answer in the list, and its value. A call
 // that is not allowed or that faults gives no pair.
 #![allow(dead_code)]
 
@@ -43,8 +43,10 @@ const READ_PIECES: usize = 4;
 struct Request<'a> {
     file: &'a [u8],
     allowed: usize,
-    room: usize,
+    out: usize,
     kind: u8,
+    probe: usize,
+    part: usize,
     ends: Vec<usize>,
 }
 
@@ -57,12 +59,13 @@ fn number(input: &mut &[u8]) -> Option<usize> {
 
 fn request<'a>(input: &mut &'a [u8]) -> Option<Request<'a>> {
     let length = number(input)?;
-    let (allowed, room) = (number(input)?, number(input)?);
-    let (kind, pieces) = (number(input)? as u8, number(input)?);
+    let (allowed, out) = (number(input)?, number(input)?);
+    let (kind, probe) = (number(input)? as u8, number(input)?);
+    let (part, pieces) = (number(input)?, number(input)?);
     let ends = (0..pieces).map(|_| number(input)).collect::<Option<_>>()?;
     let (file, rest) = input.split_at(length);
     *input = rest;
-    Some(Request { file, allowed, room, kind, ends })
+    Some(Request { file, allowed, out, kind, probe, part, ends })
 }
 
 fn digest(values: impl Iterator<Item = u64>) -> u64 {
@@ -74,9 +77,9 @@ fn bytes(parts: &[Vec<u8>]) -> impl Iterator<Item = u64> + '_ {
 }
 
 /// The digest of an output that held 165 in each byte before.
-fn output(packets: &[Vec<u8>], room: usize) -> u64 {
+fn output(packets: &[Vec<u8>], length: usize) -> u64 {
     let tail = std::iter::repeat(165).take(64);
-    digest(bytes(packets).chain(tail).take(42 * room))
+    digest(bytes(packets).chain(tail).take(length))
 }
 
 /// A segment as the list has it: frames, reset, every byte.
@@ -84,7 +87,8 @@ fn segment(frames: usize, reset: bool, parts: &[Vec<u8>]) -> Vec<u64> {
     [frames as u64, reset as u64].into_iter().chain(bytes(parts)).collect()
 }
 
-fn detect(file: &[u8]) -> Pairs {
+fn detect(request: &Request) -> Pairs {
+    let file = request.file;
     let format = match demux::detect_format(file) {
         None => 0,
         Some(AudioFormat::DssSp) => 1,
@@ -95,12 +99,16 @@ fn detect(file: &[u8]) -> Pairs {
     };
     let start = demux::ds2::detect_ds2_audio_start(file);
     let kind = demux::ds2::detect_ds2_format_type(file, start);
-    vec![(1, format), (2, start as u64), (3, kind as u64)]
+    let there = demux::ds2::detect_ds2_format_type(file, request.probe);
+    let begin = request.probe.min(file.len());
+    let part = &file[begin..(begin + request.part).min(file.len())];
+    let good = demux::ds2::is_ds2_audio_block_header(part);
+    vec![(1, format), (2, start as u64), (3, kind as u64), (68, there as u64), (69, good as u64)]
 }
 
 fn dss(request: &Request) -> Pairs {
     match demux::dss::demux_dss(request.file) {
-        Ok((packets, _)) => vec![(6, packets.len() as u64), (7, output(&packets, request.room))],
+        Ok((packets, _)) => vec![(6, packets.len() as u64), (7, output(&packets, request.out))],
         Err(_) => vec![(4, 1)],
     }
 }
@@ -108,7 +116,7 @@ fn dss(request: &Request) -> Pairs {
 fn ds2(request: &Request) -> Pairs {
     match demux::ds2::demux_ds2(request.file) {
         Ok(DemuxedDs2::Sp { packets, .. }) => {
-            vec![(11, packets.len() as u64), (12, output(&packets, request.room))]
+            vec![(11, packets.len() as u64), (12, output(&packets, request.out))]
         }
         Ok(DemuxedDs2::QpSegments { segments, total_frames }) => {
             let one = |s: &Ds2QpSegment| segment(s.total_frames, s.reset_before, from_ref(&s.stream));
@@ -189,7 +197,7 @@ fn main() {
                 print!("{place} {value} ");
             }
         };
-        ask(0, &|| detect(request.file));
+        ask(0, &|| detect(&request));
         ask(DEMUX_DSS, &|| dss(&request));
         ask(DEMUX_DS2, &|| ds2(&request));
         ask(DEMUX_DS2, &|| qp_frames(&request));

@@ -9,7 +9,7 @@ ghost use lib.ListN.{length};
 
 // The line for a file, after what it is.
 fn show_line(what: &[u8], file: &[u8]) {
-    let mut line = [0u8; 133];
+    let mut line = [0u8; listing::LINE];
     let long = listing::list_line(file, &mut line);
     text(b"list, ");
     text(what);

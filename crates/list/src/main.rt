@@ -21,7 +21,7 @@ fn main() {
         );
         return;
     }
-    let mut line = [0u8; 133];
+    let mut line = [0u8; listing::LINE];
     let long = listing::list_line(&file[..n], &mut line);
     io::write_all(STDOUT_FILENO, &line[..long]);
 }

@@ -1,4 +1,4 @@
--- A number's decimal digits: they are those that io writes, there are few of them and at least one, reading them back gives the number,
+-- A number's decimal digits: they are those that io writes, there are few of them, reading them back gives the number,
 -- and there is no zero in front. Assumes nothing.
 use Prim.Native.Nat.{ℕ, zero, suc, _+_, _-_, _*_, _/_, _%_, _^_, _≤_, _<_}
 use mathlib.Core.Path.{_≡_, refl, sym, ap, _∙_}
@@ -75,9 +75,6 @@ decimal-few n = in-few 20 n
 in-some : (k n : ℕ) → 0 < length (decimalIn (suc k) n)
 in-some k n =
     by-order n 10 (λ h. rw (in-one k n h) (omega arith)) (λ h. rw (in-more k n h, length-append) (omega arith))
-
-pub decimal-some : (n : ℕ) → 0 < length (decimal n)
-decimal-some n = in-some 19 n
 
 -- the number that a text of digits is read as, after a value for what stands before it
 abbrev pub valueOf : ℕ → List ℕ → ℕ

@@ -98,10 +98,6 @@ said-few (answers t) =
     simp length-append (omega (arith, name-few (t .kind), spaced-few numbers))
 said-few (refusal why) = omega (arith, spaced-few (why .number ∷ why .beside ∷ []))
 
-pub line-few : (f : List ℕ) → length (listLine f) ≤ 133
-unfolding listLine
-line-few f = said-few (listed f)
-
 -- longer input is refused before any other check, and other input is tallied
 pub too-long : (f : List ℕ) → 65536 < length f → listed f ≡ refuses 2 65536
 too-long f h = simp (lt-leb (length f) 65536 h)

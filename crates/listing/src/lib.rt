@@ -13,7 +13,7 @@ ghost use Rattle.listing.specs.Line.{nameOf, spaced, tallyLine, refusedL
 // The most bytes that `list` takes.
 pub const MOST: usize = 65536;
 
-// The longest line: a kind of 6 letters, six numbers of up to 20 digits with a space before each, and the line's end.
+// No line is longer: a kind of 6 letters, six numbers of up to 20 digits with a space before each, and the line's end.
 pub const LINE: usize = 133;
 
 // Puts a text into the line from a place on, and answers where it ends.
@@ -81,7 +81,7 @@ fn put_refusal(why: Refusal, line: &mut [u8]) -> usize
 }
 
 // Puts the line for a file at the front of the buffer, and answers how long it is.
-pub fn list_line(file: &[u8], line: &mut [u8; 133]) -> usize
+pub fn list_line(file: &[u8], line: &mut [u8; LINE]) -> usize
     ensures line { λ r. ⌜ Lists (listLine (now (file .entry))) (now (line .entry)) (now (line .exit)) r ⌝ }
     ensures inside { λ r. ⌜ Counts r (now (line .exit)) ⌝ }
 {

@@ -26,7 +26,36 @@ fn with_file(tried: Tried, made: Made, whole: WholeReading, wrong: usize) -> Tri
     }
 }
 
-// The cut of a number, for one of three ways: 0 every place, 1 pairs of places within 3 bytes of two edges, 2 what noise chooses.
+// So many bytes past the beginning of a block, less 3.
+fn near_edge(made: Made, block: usize, past: usize) -> usize {
+    let at = trials::sum(made.start, trials::sum(512 * (block % 40), past));
+    at - tables::lesser(at, 3)
+}
+
+// Two places within 3 bytes of the edges of blocks, by a number.
+fn edge_cuts(made: Made, k: usize) -> Cuts {
+    let edges = made.blocks % 40 + 1;
+    Cuts {
+        first: near_edge(made, k / 49 % edges, k % 7),
+        second: near_edge(made, k / 49 / edges % edges, k / 7 % 7),
+        step: 0,
+    }
+}
+
+// Two places of the file and a step that noise chooses, apart from the noise that made it.
+fn any_cuts(made: Made, number: u64, k: usize) -> Cuts {
+    let most = trials::sum(made.long, 1) as u64;
+    let a = noise(noise(std::num::wrapping_add_u64(555555 * (number % 1000000), k as u64)));
+    let b = noise(a);
+    let c = noise(b);
+    Cuts {
+        first: below(a, most) as usize,
+        second: below(b, most) as usize,
+        step: (1 + below(c, 3000) % 3000) as usize,
+    }
+}
+
+// The cut of a number, for one of three ways: 0 every place, 1 around edges, 2 what noise chooses.
 fn cuts_by(way: u64, made: Made, number: u64, k: usize) -> Cuts {
     if way == 0 {
         return Cuts {
@@ -36,64 +65,99 @@ fn cuts_by(way: u64, made: Made, number: u64, k: usize) -> Cuts {
         };
     }
     if way == 1 {
-        let one = trials::sum(made.start, 512 * (k / 49 % 12) + k % 7);
-        let other = trials::sum(made.start, 512 * (k / 588 % 12) + k / 7 % 7);
-        return Cuts {
-            first: if one < 3 { 0 } else { one - 3 },
-            second: if other < 3 { 0 } else { other - 3 },
-            step: 0,
-        };
+        return edge_cuts(made, k);
     }
-    let a = noise(std::num::wrapping_add_u64(number, k as u64));
-    let b = noise(a);
-    let c = noise(b);
-    Cuts {
-        first: below(a, 24000) as usize,
-        second: below(b, 24000) as usize,
-        step: (1 + below(c, 3000) % 3000) as usize,
-    }
+    any_cuts(made, number, k)
 }
 
-// How many cuts: every place, which is for small files; all pairs of places around edges; or two that noise chooses.
-fn times_by(way: u64, made: Made) -> usize {
+// Whether a cut is tried: around edges, only if there are three pieces.
+fn is_tried(way: u64, cuts: Cuts) -> bool {
+    way != 1 || cuts.first < cuts.second
+}
+
+// How many pairs of places there are around the edges of so many blocks, with 7 places an edge.
+fn edge_pairs(blocks: usize) -> usize {
+    if blocks == 1 {
+        return 196;
+    }
+    if blocks == 2 {
+        return 441;
+    }
+    if blocks == 3 { 784 } else { 0 }
+}
+
+// How many cuts: every place of a small file that has packets; all pairs of places around its edges; or four that noise chooses.
+fn times_by(way: u64, made: Made, packets: usize) -> usize {
+    if way == 2 {
+        return 4;
+    }
+    let pairs = edge_pairs(made.blocks);
+    if pairs == 0 || packets < 12 {
+        return 0;
+    }
     if way == 0 {
-        return if made.blocks <= 3 {
-            trials::sum(made.long, 1)
-        } else {
-            0
-        };
+        trials::sum(made.long, 1)
+    } else {
+        pairs
     }
-    if way == 1 { 7056 } else { 2 }
 }
 
-// One file in many cuts: the whole reading and the tally once, then each cut.
-fn one_file(tried: Tried, way: u64, number: u64, made: Made, file: &mut [u8]) -> Tried {
+// The cut of a number, if it is tried.
+fn try_one(
+    tried: Tried,
+    way: u64,
+    number: u64,
+    file: &[u8],
+    made: Made,
+    whole: WholeReading,
+    k: usize,
+    out: &mut [u8],
+    counts: &mut [u8],
+) -> Tried {
+    let cuts = cuts_by(way, made, number, k);
+    if !is_tried(way, cuts) {
+        return tried;
+    }
+    crate::readings::try_cut(tried, number, file, made, whole, cuts, out, counts)
+}
+
+// The cuts of a file by numbers.
+fn try_cuts(
+    before: Tried,
+    way: u64,
+    number: u64,
+    file: &[u8],
+    made: Made,
+    whole: WholeReading,
+    out: &mut [u8],
+    counts: &mut [u8],
+) -> Tried {
+    let times = times_by(way, made, whole.out.many);
+    let mut tried = before;
+    let mut k: usize = 0;
+    while k < times {
+        tried = try_one(tried, way, number, file, made, whole, k, out, counts);
+        k += 1;
+    }
+    tried
+}
+
+// The whole reading of a file and its tally, and then each cut.
+fn read_file(tried: Tried, way: u64, number: u64, made: Made, file: &[u8]) -> Tried {
     let mut out = [0u8; 430080];
     let mut counts = [0u8; 10240];
-    crate::files::make(number, made, file);
     let whole = crate::readings::whole(file, made, &mut out, &mut counts);
     let wrong = crate::readings::tally_differs(number, file, made, whole);
-    let mut all = with_file(tried, made, whole, wrong);
+    let all = with_file(tried, made, whole, wrong);
     if !is_sp(made) {
         return all;
     }
-    let times = times_by(way, made);
-    let mut k: usize = 0;
-    while k < times {
-        let cuts = cuts_by(way, made, number, k);
-        all = crate::readings::cut_differs(
-            all,
-            number,
-            file,
-            made,
-            whole,
-            cuts,
-            &mut out,
-            &mut counts,
-        );
-        k += 1;
-    }
-    all
+    try_cuts(all, way, number, file, made, whole, &mut out, &mut counts)
+}
+
+fn one_file(tried: Tried, way: u64, number: u64, made: Made, file: &mut [u8]) -> Tried {
+    crate::files::make(number, made, file);
+    read_file(tried, way, number, made, file)
 }
 
 // The files of some numbers.
@@ -111,11 +175,11 @@ fn files(before: Tried, way: u64, from: u64, to: u64) -> Tried {
 }
 
 pub fn every_cut(tried: Tried) -> Tried {
-    files(tried, 0, 1, 40)
+    files(tried, 0, 1, 150)
 }
 
 pub fn at_edges(tried: Tried) -> Tried {
-    files(tried, 1, 100, 112)
+    files(tried, 1, 200, 400)
 }
 
 pub fn at_random(tried: Tried) -> Tried {

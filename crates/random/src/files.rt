@@ -25,6 +25,14 @@ fn kind_by(choice: u64) -> u64 {
     choice
 }
 
+// A block's header: its flag, byte 1, its count and its type.
+struct Header {
+    flag: u64,
+    first: u64,
+    count: u64,
+    byte: u64,
+}
+
 // The type byte for a kind: 0 to 5 are SP, 6 and 8 to 255 QP.
 fn type_by(kind: u64, state: u64) -> u64 {
     if kind == 7 {
@@ -33,7 +41,7 @@ fn type_by(kind: u64, state: u64) -> u64 {
     if kind != 6 {
         return below(state, 6);
     }
-    let choice = below(state, 249) % 249;
+    let choice = below(state, 250) % 250;
     if choice == 1 { 6 } else { 6 + choice }
 }
 
@@ -42,6 +50,9 @@ fn count_by(kind: u64, style: u64, state: u64) -> u64 {
     let next = noise(state);
     if kind == 7 {
         return below(state, 10);
+    }
+    if style == 0 && kind == 6 {
+        return 8 + below(state, 2) % 2;
     }
     if style == 0 {
         return 12 + below(state, 2) % 2;
@@ -59,10 +70,19 @@ fn count_by(kind: u64, style: u64, state: u64) -> u64 {
     }
 }
 
-// Byte 1: the block's start, near the front or anywhere.
-fn first_by(style: u64, state: u64) -> u64 {
-    if style == 0 {
+// Byte 1 of a block that goes on where the frames before it end in the stream, if that is in it.
+fn going_on(far: usize, block: usize) -> u64 {
+    let base = 506 * (block % 40);
+    if far < base || base + 504 < far {
         return 3;
+    }
+    3 + (far - base) as u64 / 2
+}
+
+// Byte 1 by style: where the block before ends, near the front or anywhere.
+fn first_by(style: u64, state: u64, far: usize, block: usize) -> u64 {
+    if style == 0 {
+        return going_on(far, block);
     }
     if style == 1 {
         return below(state, 8);
@@ -70,45 +90,57 @@ fn first_by(style: u64, state: u64) -> u64 {
     below(state, 256)
 }
 
-// A header's third byte and those after it: its count and its type byte.
-fn put_count(file: &mut [u8], place: usize, kind: u64, style: u64, state: u64) {
-    let count = noise(state);
-    let byte = noise(count);
-    set(
-        file,
-        trials::sum(place, 2),
-        (count_by(kind, style, count) % 256) as u8,
-    );
+// A header from where the noise stands, five steps on for each block.
+fn header_by(kind: u64, style: u64, state: u64, far: usize, block: usize) -> Header {
+    let a = noise(state);
+    let b = noise(a);
+    let c = noise(b);
+    let d = noise(c);
+    Header {
+        flag: below(a, 2) % 2,
+        first: first_by(style, b, far, block) % 256,
+        count: count_by(kind, style, c) % 256,
+        byte: type_by(kind, d) % 256,
+    }
+}
+
+fn five_on(state: u64) -> u64 {
+    noise(noise(noise(noise(noise(state)))))
+}
+
+// Where a block's frames end in the stream, each of 56 bytes.
+fn frames_end(header: Header, block: usize) -> usize {
+    let base = 506 * (block % 40);
+    let first = (header.first % 256) as usize;
+    let start = if first < 3 { 0 } else { 2 * first - 6 };
+    let long = 56 * (header.count % 256) as usize;
+    trials::sum(trials::sum(base, start), long)
+}
+
+fn put_count(file: &mut [u8], place: usize, header: Header) {
+    set(file, trials::sum(place, 2), (header.count % 256) as u8);
     set(file, trials::sum(place, 3), 255);
-    set(
-        file,
-        trials::sum(place, 4),
-        (type_by(kind, byte) % 256) as u8,
-    );
+    set(file, trials::sum(place, 4), (header.byte % 256) as u8);
     set(file, trials::sum(place, 5), 255);
 }
 
-// A block's header, from where the noise stands.
-fn put_header(file: &mut [u8], place: usize, kind: u64, style: u64, state: u64) {
-    let flag = noise(state);
-    let first = noise(flag);
-    set(file, place, (15 + 128 * (below(flag, 2) % 2)) as u8);
-    set(
-        file,
-        trials::sum(place, 1),
-        (first_by(style, first) % 256) as u8,
-    );
-    put_count(file, place, kind, style, first);
+fn put_header(file: &mut [u8], place: usize, header: Header) {
+    set(file, place, (15 + 128 * (header.flag % 2)) as u8);
+    set(file, trials::sum(place, 1), (header.first % 256) as u8);
+    put_count(file, place, header);
 }
 
 fn put_headers(file: &mut [u8], made: Made, style: u64, seed: u64) {
     let mut state = seed;
     let mut place = made.start;
+    let mut far: usize = 0;
     let mut block = 0;
     while block < made.blocks {
-        state = noise(state);
-        put_header(file, place, made.kind, style, state);
+        let header = header_by(made.kind, style, state, far, block);
+        put_header(file, place, header);
+        state = five_on(state);
         place = trials::sum(place, 512);
+        far = frames_end(header, block);
         block += 1;
     }
 }
@@ -125,7 +157,7 @@ fn is_dss(kind: u64) -> bool {
     kind == 2 || kind == 3
 }
 
-// How many blocks a file has at most: twelve, or forty for one in eight.
+// How many blocks a file has fewer than: twelve, or forty for one in eight.
 fn blocks_by(state: u64) -> u64 {
     if state % 8 == 0 { 40 } else { 12 }
 }

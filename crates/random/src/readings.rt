@@ -11,12 +11,12 @@ use trials::bytes::Gathered;
 use trials::ends::ToTheEnd;
 use trials::feeding::Cuts;
 use trials::feeding::Sums;
-use trials::feeding::none;
-use trials::feeding::with_answer;
 use trials::say;
 
-// What a file's whole reading says: how many frames it announces, and what it hands out, with digests of packets and counts.
+// What a file's whole reading says: which reading it is (0 DSSSP, 1 DS2SP, 2 DS2QP, 3 DS2QP7), its refusal, how many frames it announces, and
+// what it hands out, with digests of packets and counts.
 pub struct WholeReading {
+    pub kind: u64,
     pub number: u64,
     pub beside: u64,
     pub announced: usize,
@@ -26,7 +26,7 @@ pub struct WholeReading {
 }
 
 // A line for a disagreement.
-pub fn complain(number: u64, what: &[u8], expected: u64, got: u64) {
+fn complain(number: u64, what: &[u8], expected: u64, got: u64) {
     say(b"file ", number);
     io::write_all(STDOUT_FILENO, b": ");
     io::write_all(STDOUT_FILENO, what);
@@ -94,32 +94,33 @@ fn sum_of(counts: &[u8], many: usize) -> usize {
     sum
 }
 
-fn short_in(file: &[u8], made: Made, counts: &[u8], many: usize) -> usize {
-    if made.kind == 0 {
+fn short_in(file: &[u8], made: Made, ds2: bool, counts: &[u8], many: usize) -> usize {
+    if ds2 {
         return short_in_run(counts, 0, many, 128 <= byte(file, made.start));
     }
     short_in_dss(file, made, counts)
 }
 
-// The whole call for a kind: DS2 for 0, and else DSS.
-fn demux_sp(file: &[u8], kind: u64, out: &mut [u8], counts: &mut [u8]) -> Demuxed {
-    if kind == 0 {
+// The whole SP call of a family.
+fn demux_sp(file: &[u8], ds2: bool, out: &mut [u8], counts: &mut [u8]) -> Demuxed {
+    if ds2 {
         return sp::demux_ds2(file, out, counts);
     }
     sp::demux_dss(file, out, counts)
 }
 
-// The whole SP reading.
-fn whole_sp(file: &[u8], made: Made, out: &mut [u8], counts: &mut [u8]) -> WholeReading {
-    let answer = demux_sp(file, made.kind, out, counts);
-    let sums = with_answer(none(), answer, 0, out, counts);
+// The whole SP reading, as DS2 or as DSS.
+fn whole_sp(file: &[u8], made: Made, ds2: bool, out: &mut [u8], counts: &mut [u8]) -> WholeReading {
+    let answer = demux_sp(file, ds2, out, counts);
+    let sums = trials::feeding::told(answer, out, counts);
     WholeReading {
+        kind: if ds2 { 1 } else { 0 },
         number: sums.number,
         beside: sums.beside,
         announced: sums.packets,
         out: HandedOut {
             many: sums.packets,
-            short: short_in(file, made, counts, sums.packets),
+            short: short_in(file, made, ds2, counts, sums.packets),
             bytes: sum_of(counts, sums.packets) as u64,
         },
         bytes: sums.bytes,
@@ -127,8 +128,9 @@ fn whole_sp(file: &[u8], made: Made, out: &mut [u8], counts: &mut [u8]) -> Whole
     }
 }
 
-fn refused(number: u64, beside: u64) -> WholeReading {
+fn refused(kind: u64, number: u64, beside: u64) -> WholeReading {
     WholeReading {
+        kind,
         number,
         beside,
         announced: 0,
@@ -142,8 +144,9 @@ fn refused(number: u64, beside: u64) -> WholeReading {
     }
 }
 
-fn gathered(announced: usize, all: Gathered) -> WholeReading {
+fn gathered(kind: u64, announced: usize, all: Gathered) -> WholeReading {
     WholeReading {
+        kind,
         number: 0,
         beside: 0,
         announced,
@@ -161,8 +164,9 @@ fn whole_qp(file: &[u8]) -> WholeReading {
     let mut table = [0u32; 256];
     let answer = qp::demux_ds2_qp(file, &mut table);
     match answer {
-        qp::Demuxed::Refused(why) => refused(why.number, why.beside),
+        qp::Demuxed::Refused(why) => refused(2, why.number, why.beside),
         qp::Demuxed::Segments(totals) => gathered(
+            2,
             totals.announced,
             trials::bytes::of_segments(file, &table, totals.segments),
         ),
@@ -174,23 +178,33 @@ fn whole_qp7(file: &[u8]) -> WholeReading {
     let mut segments = [0u32; 256];
     let answer = qp7::demux_ds2_qp7(file, &mut records, &mut segments);
     match answer {
-        qp7::Demuxed::Refused(why) => refused(why.number, why.beside),
+        qp7::Demuxed::Refused(why) => refused(3, why.number, why.beside),
         qp7::Demuxed::Tables(totals) => gathered(
+            3,
             totals.records,
             trials::bytes::of_records(file, &records, &segments, totals.segments),
         ),
     }
 }
 
-// The whole reading of any file.
-pub fn whole(file: &[u8], made: Made, out: &mut [u8], counts: &mut [u8]) -> WholeReading {
-    if made.kind == 6 {
+// The table reading of a QP or QP7 file.
+fn whole_table(file: &[u8], kind: u64) -> WholeReading {
+    if kind == 6 {
         return whole_qp(file);
     }
-    if made.kind == 7 {
-        return whole_qp7(file);
+    whole_qp7(file)
+}
+
+// The whole reading of any file. One of QP or QP7 blocks that announce nothing has type 0, and is read as DS2 SP.
+pub fn whole(file: &[u8], made: Made, out: &mut [u8], counts: &mut [u8]) -> WholeReading {
+    if made.kind < 6 {
+        return whole_sp(file, made, made.kind == 0, out, counts);
     }
-    whole_sp(file, made, out, counts)
+    let read = whole_table(file, made.kind);
+    if read.number != 11 {
+        return read;
+    }
+    whole_sp(file, made, true, out, counts)
 }
 
 // How many numbers of what is handed out are not the whole reading's.
@@ -216,17 +230,6 @@ fn out_differs(number: u64, expected: HandedOut, got: HandedOut) -> usize {
     )
 }
 
-// The kind that a tally is to have: 0 DSSSP, 1 DS2SP, 2 DS2QP, 3 DS2QP7.
-fn kind_by(kind: u64) -> u64 {
-    if kind == 0 {
-        return 1;
-    }
-    if kind < 6 {
-        return 0;
-    }
-    kind % 4
-}
-
 // How many figures of a tally are not the whole reading's.
 fn figures_differ(number: u64, made: Made, whole: WholeReading, figures: Figures) -> usize {
     let mut wrong = differs(number, b"tally, refusal", whole.number, 0);
@@ -236,7 +239,7 @@ fn figures_differ(number: u64, made: Made, whole: WholeReading, figures: Figures
         differs(
             number,
             b"tally, kind",
-            kind_by(made.kind),
+            whole.kind,
             trials::kind_number(kind),
         ),
     );
@@ -264,12 +267,8 @@ fn figures_differ(number: u64, made: Made, whole: WholeReading, figures: Figures
     trials::sum(wrong, out_differs(number, expected, got))
 }
 
-// How many numbers of the tally are not the whole reading's. A file of QP or QP7 blocks that announce nothing is read as SP: there is nothing
-// to compare.
+// How many numbers of the tally are not the whole reading's.
 pub fn tally_differs(number: u64, file: &[u8], made: Made, whole: WholeReading) -> usize {
-    if whole.number == 11 {
-        return 0;
-    }
     let answer = tally::tally(file);
     match answer {
         Tallied::Refused(why) => trials::sum(
@@ -346,8 +345,27 @@ fn with_cut(tried: Tried, sums: Sums, seven: usize, wrong: usize) -> Tried {
     }
 }
 
-// One file cut in one way. Only a DS2 piece may be refused, and only by 7.
-pub fn cut_differs(
+// How many answers to a file cut in one way are not the whole reading's. Only a DS2 piece may be refused, and only by 7.
+fn cut_differs(number: u64, made: Made, whole: WholeReading, drained: ToTheEnd) -> usize {
+    let came = drained.came;
+    if came.number != 0 {
+        let seven = if made.kind == 0 { 7 } else { 0 };
+        return differs(number, b"pieces, refusal", seven, came.number);
+    }
+    end_differs(number, made, whole, drained)
+}
+
+// A line that says how the file of the lines before was cut.
+fn show_cuts(number: u64, cuts: Cuts) {
+    say(b"that was file ", number);
+    say(b", cut at ", cuts.first as u64);
+    say(b" and ", cuts.second as u64);
+    say(b", step ", cuts.step as u64);
+    io::write_all(STDOUT_FILENO, b"\n");
+}
+
+// One file cut in one way.
+pub fn try_cut(
     tried: Tried,
     number: u64,
     file: &[u8],
@@ -359,11 +377,10 @@ pub fn cut_differs(
 ) -> Tried {
     let drained = trials::ends::drained(made.kind, file, cuts, out, counts);
     let came = drained.came;
-    if came.number != 0 {
-        let seven = if made.kind == 0 { 7 } else { 0 };
-        let wrong = differs(number, b"pieces, refusal", seven, came.number);
-        return with_cut(tried, came, 1, wrong);
+    let wrong = cut_differs(number, made, whole, drained);
+    if wrong != 0 {
+        show_cuts(number, cuts);
     }
-    let wrong = end_differs(number, made, whole, drained);
-    with_cut(tried, came, 0, wrong)
+    let seven = if came.number == 0 { 0 } else { 1 };
+    with_cut(tried, came, seven, wrong)
 }

@@ -43,7 +43,7 @@ fn after_arrival(out: HandedOut, gathering: Gathering, at: StreamPlace, end: usi
     crate::together(out, of_open(gathering, end))
 }
 
-// What a QP recording hands out. The walk is told to write no entries.
+// For the rest of this crate. What a QP recording hands out. The walk is told to write no entries.
 pub fn of_qp(file: &[u8], recording: Recording) -> HandedOut
     requires { ⌜ Sound (now file) recording ⌝ }
     ensures { λ r. ⌜ r ≡ framesOut (segmentsFrom (now (file .entry)) recording) ⌝ }

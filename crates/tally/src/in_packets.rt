@@ -32,7 +32,7 @@ fn of_run(run: Run, long: usize) -> HandedOut
     }
 }
 
-// What a DSS recording hands out: a run for each block, which for a silent one has no packets.
+// For the rest of this crate. What a DSS recording hands out: a run for each block, which for a silent one has no packets.
 pub fn of_dss(file: &[u8], recording: Recording) -> HandedOut
     requires { ⌜ Sound (now file) recording ⌝ }
     ensures { λ r. ⌜ r ≡ packetsOut (readingOf (now (file .entry)) recording dssRuns) ⌝ }
@@ -54,7 +54,7 @@ pub fn of_dss(file: &[u8], recording: Recording) -> HandedOut
     out
 }
 
-// What a DS2 recording hands out that announces so many packets: one run.
+// For the rest of this crate. What a DS2 recording hands out that announces so many packets: one run.
 pub fn of_ds2(file: &[u8], recording: Recording, announced: usize) -> HandedOut
     requires sound { ⌜ Sound (now file) recording ⌝ }
     requires announced { ⌜ announced ≡ announcedBy (now file) recording ⌝ }

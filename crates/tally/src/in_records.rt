@@ -38,7 +38,7 @@ fn bytes_read(
     crate::left_from(tables::greater(before.0, begin.0), after.0)
 }
 
-// What a QP7 recording hands out, or why a record cannot be read. The walk is told to write no entries.
+// For the rest of this crate. What a QP7 recording hands out, or why a record cannot be read. The walk is told to write no entries.
 pub fn of_qp7(file: &[u8], recording: Recording) -> Counts
     requires { ⌜ Sound (now file) recording ⌝ }
     ensures { λ r. ⌜ countsSay r ≡ handedBy Ds2Qp7 (now (file .entry)) recording ⌝ }

@@ -13,13 +13,14 @@ pub struct Cuts {
 }
 
 // What came out so far: bytes taken, packets, digests of the numbers of packets that each piece brought, of the packets and of their
-// counts; and the refusal that ended it, 0 and 0 where there was none.
+// counts, and of the lent bytes past those that each call used; and the refusal that ended it, 0 and 0 where there was none.
 pub struct Sums {
     pub taken: usize,
     pub packets: usize,
     pub pieces: u64,
     pub bytes: u64,
     pub counts: u64,
+    pub past: u64,
     pub number: u64,
     pub beside: u64,
 }
@@ -38,13 +39,14 @@ pub fn none() -> Sums {
         pieces: 0,
         bytes: 0,
         counts: 0,
+        past: 0,
         number: 0,
         beside: 0,
     }
 }
 
 // Where the piece that begins there ends.
-pub fn piece_end(cuts: Cuts, at: usize, long: usize) -> usize
+fn piece_end(cuts: Cuts, at: usize, long: usize) -> usize
     requires { ⌜ at < long ⌝ }
     ensures { λ r. ⌜ (at < r) × (r ≤ long) ⌝ }
 {
@@ -62,8 +64,23 @@ pub fn piece_end(cuts: Cuts, at: usize, long: usize) -> usize
     at + 1 + tables::lesser(far, long - at - 1)
 }
 
+// How many packets an answer has.
+fn packets_in(answer: Demuxed) -> usize {
+    match answer {
+        Demuxed::Refused(_) => 0,
+        Demuxed::Packets(n) => n,
+    }
+}
+
+// With the lent bytes past those of so many packets.
+fn with_past(before: u64, many: usize, out: &[u8], counts: &[u8]) -> u64 {
+    let past = crate::digest_past(before, out, crate::packet_bytes(many));
+    crate::digest_past(past, counts, many)
+}
+
 // With what a call answered that was given so many bytes, and left in lent memory.
-pub fn with_answer(sums: Sums, answer: Demuxed, taken: usize, out: &[u8], counts: &[u8]) -> Sums {
+fn with_answer(sums: Sums, answer: Demuxed, taken: usize, out: &[u8], counts: &[u8]) -> Sums {
+    let past = with_past(sums.past, packets_in(answer), out, counts);
     match answer {
         Demuxed::Refused(why) => Sums {
             taken: sums.taken,
@@ -71,6 +88,7 @@ pub fn with_answer(sums: Sums, answer: Demuxed, taken: usize, out: &[u8], counts
             pieces: sums.pieces,
             bytes: sums.bytes,
             counts: sums.counts,
+            past,
             number: why.number,
             beside: why.beside,
         },
@@ -80,10 +98,45 @@ pub fn with_answer(sums: Sums, answer: Demuxed, taken: usize, out: &[u8], counts
             pieces: crate::mix(sums.pieces, n as u64),
             bytes: crate::digest(sums.bytes, out, crate::packet_bytes(n)),
             counts: crate::digest(sums.counts, counts, n),
+            past,
             number: 0,
             beside: 0,
         },
     }
+}
+
+// The same, and lent memory made again as it was before the call.
+pub fn count_in(
+    sums: Sums,
+    answer: Demuxed,
+    taken: usize,
+    out: &mut [u8],
+    counts: &mut [u8],
+) -> Sums {
+    let many = packets_in(answer);
+    let next = with_answer(sums, answer, taken, out, counts);
+    crate::refill(out, crate::packet_bytes(many));
+    crate::refill(counts, many);
+    next
+}
+
+// What one answer is in numbers.
+pub fn told(answer: Demuxed, out: &[u8], counts: &[u8]) -> Sums {
+    with_answer(none(), answer, 0, out, counts)
+}
+
+// Feeds a piece to a reader.
+pub fn take_piece(fed: Fed, piece: &[u8], out: &mut [u8], counts: &mut [u8]) -> Fed
+    requires { ⌜ Reached (fed .reader) ⌝ }
+    ensures { λ r. ⌜ Reached (r .reader) ⌝ }
+{
+    let reader = fed.reader;
+    let before = fed.sums;
+    let step = reader.piece(piece, out, counts);
+    let answer = step.answer;
+    let next = step.reader;
+    let sums = count_in(before, answer, piece.len(), out, counts);
+    Fed { reader: next, sums }
 }
 
 // Feeds a file to a reader, up to its end or to the first piece that is refused.
@@ -91,16 +144,13 @@ pub fn feed(reader: Reader, file: &[u8], cuts: Cuts, out: &mut [u8], counts: &mu
     requires { ⌜ Reached reader ⌝ }
     ensures { λ r. ⌜ Reached (r .reader) ⌝ }
 {
-    let mut fed = reader;
-    let mut sums = none();
+    let sums = none();
+    let mut fed = Fed { reader, sums };
     let mut at: usize = 0;
-    while at < file.len() && sums.number == 0 {
+    while at < file.len() && fed.sums.number == 0 {
         let end = piece_end(cuts, at, file.len());
-        let step = fed.piece(&file[at..end], out, counts);
-        let answer = step.answer;
-        fed = step.reader;
-        sums = with_answer(sums, answer, end - at, out, counts);
+        fed = take_piece(fed, &file[at..end], out, counts);
         at = end;
     }
-    Fed { reader: fed, sums }
+    fed
 }

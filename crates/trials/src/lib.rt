@@ -109,7 +109,37 @@ pub fn digest(before: u64, bytes: &[u8], n: usize) -> u64 {
     digest
 }
 
-// The same for words.
+// With the byte at a place, if there is one.
+fn with_byte(digest: u64, bytes: &[u8], at: usize) -> u64 {
+    if at < bytes.len() {
+        mix(digest, tables::wide(bytes[at]) as u64)
+    } else {
+        digest
+    }
+}
+
+// A digest with up to 64 bytes more, from a place on: what a call was to leave as it was.
+pub fn digest_past(before: u64, bytes: &[u8], from: usize) -> u64 {
+    let mut digest = before;
+    let mut k: usize = 0;
+    while k < 64 {
+        digest = with_byte(digest, bytes, sum(from, k));
+        k += 1;
+    }
+    digest
+}
+
+// The first n bytes made again what lent bytes are before a call.
+pub fn refill(bytes: &mut [u8], n: usize) {
+    let many = tables::lesser(n, bytes.len());
+    let mut at = 0;
+    while at < many {
+        bytes[at] = 165;
+        at += 1;
+    }
+}
+
+// The digest of the first n words, or of all.
 pub fn digest_words(before: u64, words: &[u32], n: usize) -> u64 {
     let many = tables::lesser(n, words.len());
     let mut digest = before;

@@ -4,6 +4,9 @@ use crate::list::Seen;
 use crate::list::expect;
 use crate::list::next;
 use crate::list::read_to;
+use crate::pieces::with_more;
+use crate::pieces::with_pieces;
+use blocks::FilePlace;
 use blocks::StreamPlace;
 use detect::AudioFormat;
 use detect::PayloadAnswer;
@@ -12,6 +15,7 @@ use refusals::Refusal;
 use sp::Demuxed;
 use tally::Figures;
 use tally::Tallied;
+use trials::ends::Pieces;
 use trials::feeding::Cuts;
 
 // The numbers that make a file, and up to where they were read.
@@ -138,7 +142,7 @@ pub fn refusal(list: &[u8], before: Seen, number: u64, beside: u64) -> Seen {
 
 // What a whole SP call answered and left.
 fn packets(list: &[u8], before: Seen, answer: Demuxed, out: &[u8], counts: &[u8]) -> Seen {
-    let sums = trials::feeding::with_answer(trials::feeding::none(), answer, 0, out, counts);
+    let sums = trials::feeding::told(answer, out, counts);
     let many = sums.packets;
     let bytes = trials::sum(trials::packet_bytes(many), 64);
     let mut seen = refusal(list, before, sums.number, sums.beside);
@@ -147,23 +151,26 @@ fn packets(list: &[u8], before: Seen, answer: Demuxed, out: &[u8], counts: &[u8]
     expect(list, seen, trials::digest(0, counts, trials::sum(many, 64)))
 }
 
-fn whole_dss(list: &[u8], before: Seen, file: &[u8], out: &mut [u8], counts: &mut [u8]) -> Seen {
-    trials::fill(out, 0, 165);
-    trials::fill(counts, 0, 165);
-    let dss = sp::demux_dss(file, out, counts);
-    packets(list, before, dss, out, counts)
+// The whole SP call of a family.
+fn demux(file: &[u8], dss: bool, out: &mut [u8], counts: &mut [u8]) -> Demuxed {
+    if dss {
+        return sp::demux_dss(file, out, counts);
+    }
+    sp::demux_ds2(file, out, counts)
 }
 
-fn whole_ds2(list: &[u8], before: Seen, file: &[u8], out: &mut [u8], counts: &mut [u8]) -> Seen {
+fn whole_sp(
+    list: &[u8],
+    before: Seen,
+    file: &[u8],
+    dss: bool,
+    out: &mut [u8],
+    counts: &mut [u8],
+) -> Seen {
     trials::fill(out, 0, 165);
     trials::fill(counts, 0, 165);
-    let ds2 = sp::demux_ds2(file, out, counts);
-    packets(list, before, ds2, out, counts)
-}
-
-fn whole_sp(list: &[u8], before: Seen, file: &[u8], out: &mut [u8], counts: &mut [u8]) -> Seen {
-    let seen = whole_dss(list, before, file, out, counts);
-    whole_ds2(list, seen, file, out, counts)
+    let answer = demux(file, dss, out, counts);
+    packets(list, before, answer, out, counts)
 }
 
 // What a whole QP or QP7 call answered, in numbers.
@@ -361,7 +368,7 @@ fn no_figures(list: &[u8], before: Seen, why: Refusal) -> Seen {
 
 // The listing's line and the tally.
 fn listed(list: &[u8], before: Seen, file: &[u8]) -> Seen {
-    let mut line = [0u8; 133];
+    let mut line = [0u8; listing::LINE];
     let long = listing::list_line(file, &mut line);
     let seen = expect(list, before, trials::digest(0, &line[..long], long));
     let answer = tally::tally(file);
@@ -374,105 +381,148 @@ fn listed(list: &[u8], before: Seen, file: &[u8]) -> Seen {
     }
 }
 
-// What a case asks beside its file, and up to where that was read.
-struct Asked {
+// What a reader is asked to read, and up to where that was read.
+struct Fed {
     kind: u64,
-    first: usize,
-    second: usize,
-    step: usize,
-    room: usize,
+    cuts: Cuts,
+    at: usize,
+}
+
+// How much is lent: bytes of the output, counts, words of QP's table, of QP7's records and of its segments.
+struct Lent {
+    out: usize,
+    counts: usize,
+    table: usize,
+    records: usize,
+    segments: usize,
+    at: usize,
+}
+
+// What is requested: a frame by its place and size with a scratch of so many bytes, a block's payload, and what stands in the file at a place,
+// as a part of so many bytes.
+struct Requests {
     place: usize,
     size: usize,
     scratch: usize,
     block: usize,
+    probe: usize,
+    part: usize,
     at: usize,
 }
 
-fn read_asked(list: &[u8], from: usize) -> Asked {
+fn read_fed(list: &[u8], from: usize) -> Fed {
     let kind = next(list, from);
     let first = next(list, kind.at);
     let second = next(list, first.at);
     let step = next(list, second.at);
-    let room = next(list, step.at);
-    let place = next(list, room.at);
-    let size = next(list, place.at);
-    let scratch = next(list, size.at);
-    let block = next(list, scratch.at);
-    Asked {
-        kind: kind.value,
+    let cuts = Cuts {
         first: first.value as usize,
         second: second.value as usize,
         step: step.value as usize,
-        room: room.value as usize,
+    };
+    Fed {
+        kind: kind.value,
+        cuts,
+        at: step.at,
+    }
+}
+
+fn read_lent(list: &[u8], from: usize) -> Lent {
+    let out = next(list, from);
+    let counts = next(list, out.at);
+    let table = next(list, counts.at);
+    let records = next(list, table.at);
+    let segments = next(list, records.at);
+    Lent {
+        out: out.value as usize,
+        counts: counts.value as usize,
+        table: table.value as usize,
+        records: records.value as usize,
+        segments: segments.value as usize,
+        at: segments.at,
+    }
+}
+
+fn read_requests(list: &[u8], from: usize) -> Requests {
+    let place = next(list, from);
+    let size = next(list, place.at);
+    let scratch = next(list, size.at);
+    let block = next(list, scratch.at);
+    let probe = next(list, block.at);
+    let part = next(list, probe.at);
+    Requests {
         place: place.value as usize,
         size: size.value as usize,
         scratch: scratch.value as usize,
         block: block.value as usize,
-        at: block.at,
+        probe: probe.value as usize,
+        part: part.value as usize,
+        at: part.at,
     }
 }
 
-// The SP calls, whole and in pieces, with room for so many packets.
-fn with_packets(list: &[u8], before: Seen, file: &[u8], room: usize) -> Seen {
+// A whole SP call, with so much lent.
+fn with_packets(list: &[u8], before: Seen, file: &[u8], dss: bool, lent: Lent) -> Seen {
     let mut out = [0u8; 172032];
     let mut counts = [0u8; 4096];
-    let many = tables::lesser(room, 4096);
+    let bytes = tables::lesser(lent.out, 172032);
+    let many = tables::lesser(lent.counts, 4096);
     whole_sp(
         list,
         before,
         file,
-        &mut out[0..42 * many],
+        dss,
+        &mut out[0..bytes],
         &mut counts[0..many],
     )
 }
 
-fn with_qp(list: &[u8], before: Seen, file: &[u8], room: usize) -> Seen {
+fn with_qp(list: &[u8], before: Seen, file: &[u8], lent: Lent) -> Seen {
     let mut table = [0u32; 16384];
-    let many = tables::lesser(room, 4096);
-    whole_qp(list, before, file, &mut table[0..4 * many])
+    let many = tables::lesser(lent.table, 16384);
+    whole_qp(list, before, file, &mut table[0..many])
 }
 
-fn with_qp7(list: &[u8], before: Seen, file: &[u8], room: usize) -> Seen {
+fn with_qp7(list: &[u8], before: Seen, file: &[u8], lent: Lent) -> Seen {
     let mut records = [0u32; 4096];
     let mut segments = [0u32; 12288];
-    let many = tables::lesser(room, 4096);
+    let many = tables::lesser(lent.records, 4096);
+    let entries = tables::lesser(lent.segments, 12288);
     whole_qp7(
         list,
         before,
         file,
         &mut records[0..many],
-        &mut segments[0..3 * many],
+        &mut segments[0..entries],
     )
 }
 
-// The calls with tables, with room for so many entries in each.
-fn with_tables(list: &[u8], before: Seen, file: &[u8], room: usize) -> Seen {
-    let seen = with_qp(list, before, file, room);
-    with_qp7(list, seen, file, room)
+// The whole calls, one after another.
+fn with_whole(list: &[u8], before: Seen, file: &[u8], lent: Lent) -> Seen {
+    let mut seen = with_packets(list, before, file, true, lent);
+    seen = with_packets(list, seen, file, false, lent);
+    seen = with_qp(list, seen, file, lent);
+    with_qp7(list, seen, file, lent)
 }
 
-fn with_pieces(list: &[u8], before: Seen, file: &[u8], asked: Asked) -> Seen {
+fn in_room(fed: Fed, file: &[u8], out: &mut [u8], counts: &mut [u8]) -> Pieces {
+    trials::fill(out, 0, 165);
+    trials::fill(counts, 0, 165);
+    let cuts = fed.cuts;
+    trials::ends::in_pieces(fed.kind, file, cuts, out, counts)
+}
+
+// The file in pieces, with so much lent.
+fn in_pieces(file: &[u8], fed: Fed, lent: Lent) -> Pieces {
     let mut out = [0u8; 172032];
     let mut counts = [0u8; 4096];
-    let many = tables::lesser(asked.room, 4096);
-    let cuts = Cuts {
-        first: asked.first,
-        second: asked.second,
-        step: asked.step,
-    };
-    crate::pieces::read(
-        list,
-        before,
-        file,
-        asked.kind,
-        cuts,
-        &mut out[0..42 * many],
-        &mut counts[0..many],
-    )
+    let bytes = tables::lesser(lent.out, 172032);
+    let many = tables::lesser(lent.counts, 4096);
+    in_room(fed, file, &mut out[0..bytes], &mut counts[0..many])
 }
 
 // The requests for a frame and for a payload.
-fn with_requests(list: &[u8], before: Seen, file: &[u8], asked: Asked) -> Seen {
+fn with_requests(list: &[u8], before: Seen, file: &[u8], asked: Requests) -> Seen {
     let mut scratch = [0u8; 64];
     let room = tables::lesser(asked.scratch, 64);
     let place = StreamPlace(asked.place);
@@ -480,14 +530,42 @@ fn with_requests(list: &[u8], before: Seen, file: &[u8], asked: Asked) -> Seen {
     payload(list, seen, file, asked.block)
 }
 
+// The bytes of a part of the file that begins there, as far as the file reaches.
+fn part_from(file: &[u8], from: usize, long: usize) -> &[u8] {
+    let begin = tables::lesser(from, file.len());
+    let many = tables::lesser(long, file.len() - begin);
+    &file[begin..begin + many]
+}
+
+// The type from a place on, and whether the part there is a good header.
+fn probed(list: &[u8], before: Seen, file: &[u8], asked: Requests) -> Seen {
+    let byte = detect::ds2::detect_ds2_format_type(file, FilePlace(asked.probe));
+    let seen = expect(list, before, byte as u64);
+    let part = part_from(file, asked.probe, asked.part);
+    let good = detect::ds2::is_ds2_audio_block_header(part);
+    expect(list, seen, if good { 1 } else { 0 })
+}
+
+// Where a frame stands, with nothing filled.
+fn placed(list: &[u8], before: Seen, file: &[u8], asked: Requests) -> Seen {
+    let place = StreamPlace(asked.place);
+    let fetched = frames::frame_place(file, place, asked.size, asked.scratch);
+    with_fetched(list, before, fetched)
+}
+
 fn answers(list: &[u8], before: Seen, file: &[u8]) -> Seen {
-    let asked = read_asked(list, before.at);
+    let fed = read_fed(list, before.at);
+    let lent = read_lent(list, fed.at);
+    let asked = read_requests(list, lent.at);
     let mut seen = detection(list, read_to(before, asked.at), file);
-    seen = with_packets(list, seen, file, asked.room);
-    seen = with_tables(list, seen, file, asked.room);
-    seen = with_pieces(list, seen, file, asked);
+    seen = with_whole(list, seen, file, lent);
+    let pieces = in_pieces(file, fed, lent);
+    seen = with_pieces(list, seen, pieces);
     seen = with_requests(list, seen, file, asked);
-    listed(list, seen, file)
+    seen = listed(list, seen, file);
+    seen = probed(list, seen, file, asked);
+    seen = with_more(list, seen, pieces);
+    placed(list, seen, file, asked)
 }
 
 // A case's file, made and asked about.

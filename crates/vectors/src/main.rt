@@ -24,15 +24,15 @@ fn run(list: &[u8]) {
     list::conclude(seen);
 }
 
-// Room for the list, and a byte more.
-fn room() -> [u8; 1048576] {
-    [0u8; 1048576]
+// Room for the list, and more.
+fn room() -> [u8; 1310720] {
+    [0u8; 1310720]
 }
 
 fn main() {
     let mut space = room();
     let n = io::read_full(STDIN_FILENO, &mut space);
-    if n == 1048576 {
+    if n == 1310720 {
         io::write_all(STDOUT_FILENO, b"the list is too long\n");
         return;
     }

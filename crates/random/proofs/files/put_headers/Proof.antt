@@ -8,22 +8,28 @@ use Rattle.random.proofs.files.put_headers.Statement.{statement}
 use Rattle.random.proofs.files.put_headers.Tie as tie
 
 abbrev Inv-loop : tie.InvT-loop
-Inv-loop file₀ made style seed state₀ place₀ block₀ file state place block = (block ≤ made .blocks) × (length file ≡ length file₀)
+Inv-loop file₀ made style seed state₀ place₀ far₀ block₀ file state place far block = (block ≤ made .blocks) × (length file ≡ length file₀)
 
 abbrev μ-loop : tie.MeasureT-loop
-μ-loop file₀ made style seed state₀ place₀ block₀ file state place block = made .blocks - block
+μ-loop file₀ made style seed state₀ place₀ far₀ block₀ file state place far block = made .blocks - block
 
 loop-holds : tie.Need-loop-holds Inv-loop μ-loop
 loop-holds c = search needs
 
-noise-requires : tie.Need-noise-requires Inv-loop μ-loop
-noise-requires c κs = search needs
+header-by-requires : tie.Need-header-by-requires Inv-loop μ-loop
+header-by-requires c κs = search needs
 
 put-header-requires : tie.Need-put-header-requires Inv-loop μ-loop
 put-header-requires c κs = search needs
 
+five-on-requires : tie.Need-five-on-requires Inv-loop μ-loop
+five-on-requires c κs = search needs
+
 sum-requires : tie.Need-sum-requires Inv-loop μ-loop
 sum-requires c κs = search needs
+
+frames-end-requires : tie.Need-frames-end-requires Inv-loop μ-loop
+frames-end-requires c κs = search needs
 
 add-block : tie.Need-add-block Inv-loop μ-loop
 add-block c = search needs
@@ -47,9 +53,11 @@ put-headers-spec =
     Inv-loop
     μ-loop
     loop-holds
-    noise-requires
+    header-by-requires
     put-header-requires
+    five-on-requires
     sum-requires
+    frames-end-requires
     add-block
     loop-less
     loop-again

@@ -24,8 +24,8 @@ owed-requires c κs = search needs
 lenient-end-requires : tie.Need-lenient-end-requires Inv-loop μ-loop
 lenient-end-requires c κs = search needs
 
-with-answer-requires : tie.Need-with-answer-requires Inv-loop μ-loop
-with-answer-requires c κs = search needs
+count-in-requires : tie.Need-count-in-requires Inv-loop μ-loop
+count-in-requires c κs = search needs
 
 add-turns : tie.Need-add-turns Inv-loop μ-loop
 add-turns c = search needs
@@ -63,7 +63,7 @@ drain-spec =
     loop-holds
     owed-requires
     lenient-end-requires
-    with-answer-requires
+    count-in-requires
     add-turns
     loop-less
     loop-again

@@ -4,25 +4,21 @@ use Prim.Native.Nat.{_-_, _≤_}
 use mathlib.Core.Path.{_≡_}
 use lib.ListN.{length}
 use Rattle.reader.specs.State.{Reached}
-use Rattle.reader.proofs.Total.{reached-piece}
 use borrow.Author.Needs.{needs}
 use Rattle.trials.proofs.ends.repeat.Statement.{statement}
 use Rattle.trials.proofs.ends.repeat.Tie as tie
 
 abbrev Inv-loop : tie.InvT-loop
-Inv-loop piece times out₀ counts₀ reader₀ sums₀ k₀ out counts reader sums k = Reached reader × (k ≤ times) × (length out ≡ length out₀) × (length counts ≡ length counts₀)
+Inv-loop piece times out₀ counts₀ fed₀ k₀ out counts fed k = Reached (fed .reader) × (k ≤ times) × (length out ≡ length out₀) × (length counts ≡ length counts₀)
 
 abbrev μ-loop : tie.MeasureT-loop
-μ-loop piece times out₀ counts₀ reader₀ sums₀ k₀ out counts reader sums k = times - k
+μ-loop piece times out₀ counts₀ fed₀ k₀ out counts fed k = times - k
 
 loop-holds : tie.Need-loop-holds Inv-loop μ-loop
 loop-holds c = search needs
 
-piece-requires : tie.Need-piece-requires Inv-loop μ-loop
-piece-requires c κs = search needs
-
-with-answer-requires : tie.Need-with-answer-requires Inv-loop μ-loop
-with-answer-requires c κs = search needs
+take-piece-requires : tie.Need-take-piece-requires Inv-loop μ-loop
+take-piece-requires c κs = search needs
 
 add-k : tie.Need-add-k Inv-loop μ-loop
 add-k c = search needs
@@ -31,7 +27,7 @@ loop-less : tie.Need-loop-less Inv-loop μ-loop
 loop-less c = search needs
 
 loop-again : tie.Need-loop-again Inv-loop μ-loop
-loop-again c = (search reached-piece, search needs, search needs, search needs)
+loop-again c = search needs
 
 same-length : tie.Need-same-length Inv-loop μ-loop
 same-length c = search needs
@@ -49,8 +45,7 @@ repeat-spec =
     Inv-loop
     μ-loop
     loop-holds
-    piece-requires
-    with-answer-requires
+    take-piece-requires
     add-k
     loop-less
     loop-again

@@ -1,19 +1,18 @@
--- `trials::feeding::feed` meets its contract: each piece gives back a reached reader, and ends further on in the file.
+-- `trials::feeding::feed` meets its contract: each piece gives back a reached reader and ends further on, at most at the file's end.
 -- Assumes nothing.
 use Prim.Native.Nat.{_-_}
 use mathlib.Core.Path.{_≡_}
 use lib.ListN.{length}
 use Rattle.reader.specs.State.{Reached}
-use Rattle.reader.proofs.Total.{reached-piece}
 use borrow.Author.Needs.{needs}
 use Rattle.trials.proofs.feeding.feed.Statement.{statement}
 use Rattle.trials.proofs.feeding.feed.Tie as tie
 
 abbrev Inv-loop : tie.InvT-loop
-Inv-loop file cuts out₀ counts₀ fed₀ sums₀ at₀ out counts fed sums at = Reached fed × (length out ≡ length out₀) × (length counts ≡ length counts₀)
+Inv-loop file cuts out₀ counts₀ fed₀ at₀ out counts fed at = Reached (fed .reader) × (length out ≡ length out₀) × (length counts ≡ length counts₀)
 
 abbrev μ-loop : tie.MeasureT-loop
-μ-loop file cuts out₀ counts₀ fed₀ sums₀ at₀ out counts fed sums at = length file - at
+μ-loop file cuts out₀ counts₀ fed₀ at₀ out counts fed at = length file - at
 
 none-requires : tie.Need-none-requires Inv-loop μ-loop
 none-requires c κs = search needs
@@ -24,32 +23,23 @@ loop-holds c = search needs
 piece-end-requires : tie.Need-piece-end-requires Inv-loop μ-loop
 piece-end-requires c κs = search needs
 
-sub-piece : tie.Need-sub-piece Inv-loop μ-loop
-sub-piece c = search needs
+sub-take-piece : tie.Need-sub-take-piece Inv-loop μ-loop
+sub-take-piece c = search needs
 
-part-piece-start : tie.Need-part-piece-start Inv-loop μ-loop
-part-piece-start c = search needs
+part-take-piece-start : tie.Need-part-take-piece-start Inv-loop μ-loop
+part-take-piece-start c = search needs
 
-part-piece-end : tie.Need-part-piece-end Inv-loop μ-loop
-part-piece-end c = search needs
+part-take-piece-end : tie.Need-part-take-piece-end Inv-loop μ-loop
+part-take-piece-end c = search needs
 
-piece-requires : tie.Need-piece-requires Inv-loop μ-loop
-piece-requires c κs = search needs
-
-sub-with-answer : tie.Need-sub-with-answer Inv-loop μ-loop
-sub-with-answer c = search needs
-
-with-answer-requires : tie.Need-with-answer-requires Inv-loop μ-loop
-with-answer-requires c κs = search needs
+take-piece-requires : tie.Need-take-piece-requires Inv-loop μ-loop
+take-piece-requires c κs = search needs
 
 loop-less : tie.Need-loop-less Inv-loop μ-loop
 loop-less c = search needs
 
 loop-again : tie.Need-loop-again Inv-loop μ-loop
-loop-again c =
-    let p = c .before .before .before .before .before .before .before .before in
-    let l = p .before .before .before .before .before .before .before .before .loop in
-    (reached-piece (l .inv .0) (p .piece .ensures), search needs, search needs)
+loop-again c = search needs
 
 same-length : tie.Need-same-length Inv-loop μ-loop
 same-length c = search needs
@@ -78,12 +68,10 @@ feed-spec =
     none-requires
     loop-holds
     piece-end-requires
-    sub-piece
-    part-piece-start
-    part-piece-end
-    piece-requires
-    sub-with-answer
-    with-answer-requires
+    sub-take-piece
+    part-take-piece-start
+    part-take-piece-end
+    take-piece-requires
     loop-less
     loop-again
     same-length
