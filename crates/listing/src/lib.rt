@@ -11,7 +11,7 @@ ghost use Rattle.io.specs.Counts.{Counts};
 ghost use Rattle.listing.specs.Line.{nameOf, spaced, tallyLine, refusedLine, listLine, Put, Lists};
 
 // The most bytes that `list` takes.
-pub const MOST: usize = 65536;
+const MOST: usize = 65536;
 
 // No line is longer: a kind of 6 letters, six numbers of up to 20 digits with a space before each, and the line's end.
 pub const LINE: usize = 133;

@@ -1,4 +1,4 @@
-// The list: numbers in text, and what is expected against what came. Rests on io, for the lines that it writes.
+// The list: numbers in text, and what is expected against what came. Rests on io and trials, for the lines that it writes.
 use libc::STDOUT_FILENO;
 use trials::say;
 
