@@ -19,7 +19,7 @@ def declared(name: str, path: str) -> bool:
     except OSError:
         return False
     if path.endswith(".rt"):
-        found = re.search(rf"^ *pub fn {re.escape(name)}\b[^{{]*?\n *(requires|ensures) ", text, re.M)
+        found = re.search(rf"^ *pub (?:extern \"C\" )?fn {re.escape(name)}\b[^{{]*?\n *(requires|ensures) ", text, re.M)
         return bool(found and "ensures" in text[found.start():].split("\n{", 1)[0].split("\n    {", 1)[0])
     marks = r"^ *(?:(?:unfoldable|abbrev) )*pub (?:record |data )?"
     return bool(re.search(marks + re.escape(name) + r"(?: \{[^}]*\})?(?: :| \()", text, re.M))

@@ -4,6 +4,7 @@ pub mod Format
 pub mod Header
 pub mod Types
 pub mod Payload
+pub mod Refusing
 pub mod Start
 pub mod Settled
 pub mod Rules

@@ -117,11 +117,16 @@ frame-settled κs a x y s t p q = p ∙ sym q
 pub frame-place-settled : SettledResult 1 place.ps place.r place-reads.Post
 frame-place-settled κs a x y s t p q = only-one fetchedSays fetched-read fetched-back x y _ p q
 
+-- two outcomes of `fill` are the same: its answer and the scratch
+pub only-filled : {f : List ℕ} {q size : ℕ} {scratch one′ other′ : List ℕ} {one other : Fetched} → Fills f q size scratch one′ one
+    → Fills f q size scratch other′ other → _≡_ {A = Fetched × List ℕ} (one, one′) (other, other′)
+only-filled {one = one} {other = other} p q =
+    let answer : one ≡ other = only-one fetchedSays fetched-read fetched-back one other _ (p .answer-is) (q .answer-is) in
+    cc (answer, p .scratch-is, q .scratch-is)
+
 -- And so of `fill`: its answer and the scratch.
 pub fill-settled : SettledAs 2 filling.ps filling.r (λ κs. Fetched × List ℕ) (λ κs x s. (x, now (s .1 .1 .1 .0))) filling-reads.Post
-fill-settled κs a x y s t p q =
-    let answer : x ≡ y = only-one fetchedSays fetched-read fetched-back x y _ (p .answer-is) (q .answer-is) in
-    cc (answer, p .scratch-is, q .scratch-is)
+fill-settled κs a x y s t p q = only-filled p q
 
 -- And so of `show`: the bytes of the part.
 pub show-settled : SettledAs 1 part.ps part.r (λ κs. List ℕ) (λ κs x s. now x) part-reads.Post

@@ -10,4 +10,5 @@ pub mod Keeping
 pub mod Lying
 pub mod Shares
 pub mod Words
+pub mod Refusing
 pub mod Theorems

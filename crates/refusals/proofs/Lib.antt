@@ -1,2 +1,3 @@
 -- The laws and theorems that belong to no one function. They rest on the definitions in specs/.
 pub mod Said
+pub mod Numbered

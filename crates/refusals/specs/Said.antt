@@ -1,6 +1,7 @@
 -- What a call says: its answer, or a refusal. Contracts of calls that may refuse speak of this, and a call's enum is read as such by a
 -- definition of its own. Assumes nothing.
-use Prim.Native.Nat.{ℕ}
+use Prim.Native.Nat.{ℕ, _≤_}
+use mathlib.Core.Path.{_≡_}
 use mathlib.Core.Bool.{Bool, true, false}
 use Rattle.refusals.specs.declared.Refusal.{Refusal}
 use Rattle.refusals.specs.Numbers.{numbered}
@@ -22,3 +23,7 @@ demand false number beside rest = refuses number beside
 abbrev pub onward : {A B : Type 0} → Said A → (A → Said B) → Said B
 onward (answers a) rest = rest a
 onward (refusal why) rest = refusal why
+
+-- whatever refusal is said has a number from 1 to this one
+abbrev pub Numbered : {A : Type 0} → ℕ → Said A → Type 0
+Numbered most said = (why : Refusal) → said ≡ refusal why → (1 ≤ why .number) × (why .number ≤ most)

@@ -1,0 +1,176 @@
+"""header.py HEADER RUST [ARCHIVE]: include/klovdrun.h and the declarations of the Rust crate say what the exports of crates/klovdrun say.
+
+Reads the exports' signatures and the structs from the Rattle sources, writes what C and Rust must say of them, and compares: names, order,
+types, sizes, constants, and the functions that the archive has. Rests on nothing but the sources' own layout, which `rt fmt` keeps.
+"""
+import re
+import subprocess
+import sys
+
+SCALARS = {"u8": ("uint8_t", 1), "u32": ("uint32_t", 4), "u64": ("uint64_t", 8), "usize": ("size_t", 8)}
+RATTLE = "crates/klovdrun/src/lib.rt"
+CONSTANTS = {
+    "KLOV_LIMIT": ("crates/blocks/src/lib.rt", "LIMIT"),
+    "KLOV_PACKET": ("crates/packets/src/lib.rt", "PACKET"),
+    "KLOV_FRAME": ("crates/frames/src/lib.rt", "FRAME"),
+    "KLOV_PAYLOAD": ("crates/blocks/src/lib.rt", "PAYLOAD"),
+}
+wrong = []
+
+
+def text(path):
+    with open(path, encoding="utf-8") as file:
+        return file.read()
+
+
+def squeeze(words):
+    return re.sub(r"\s+", " ", words).strip()
+
+
+def say(where, expected, found):
+    wrong.append(f"{where}: expected {expected}, found {found}")
+
+
+def exports():
+    """Each export as (name, [(parameter, type)], result)."""
+    found = []
+    pattern = r'#\[no_mangle\]\s+pub extern "C" fn (\w+)\((.*?)\) -> (\w+)\s'
+    for name, inside, result in re.findall(pattern, text(RATTLE), re.S):
+        words = [word.split(":", 1) for word in squeeze(inside).rstrip(",").split(",")]
+        found.append((name, [(one.strip(), other.strip()) for one, other in words], result))
+    return found
+
+
+def fields(path, name):
+    inside = re.search(r"#\[repr\(C\)\]\s+pub struct " + name + r" \{(.*?)\n\}", text(path), re.S).group(1)
+    return re.findall(r"(?:pub )?(\w+): ([^,\n]+),", inside)
+
+
+def layout(path, name):
+    """The size and the alignment of a struct by C's rules, and each field's place."""
+    at, most, places = 0, 1, []
+    for field, kind in fields(path, name):
+        size, align = measure(kind)
+        at = -(-at // align) * align
+        places.append((field, at))
+        at, most = at + size, max(most, align)
+    return -(-at // most) * most, most, places
+
+
+def measure(kind):
+    array = re.fullmatch(r"\[(\w+); (\w+)\]", kind)
+    if array:
+        size, align = measure(array.group(1))
+        return size * int(array.group(2)), align
+    if kind in SCALARS:
+        return SCALARS[kind][1], SCALARS[kind][1]
+    size, align, _ = layout("crates/reader/src/lib.rt" if kind == "Reader" else RATTLE, kind)
+    return size, align
+
+
+def c_type(kind):
+    return SCALARS[kind][0] if kind in SCALARS else "klov_" + kind.lower()
+
+
+def c_parameters(name, kind):
+    part = re.fullmatch(r"&(mut )?\[(\w+)\]", kind)
+    if part:
+        const = "" if part.group(1) else "const "
+        return [f"{const}{c_type(part.group(2))} *{name}", f"size_t {name}_len"]
+    if kind.startswith("&mut "):
+        return [f"{c_type(kind[5:])} *{name}"]
+    return [f"{c_type(kind)} {name}"]
+
+
+def rust_parameters(name, kind):
+    part = re.fullmatch(r"&(mut )?\[(\w+)\]", kind)
+    if part:
+        return [f"{name}: {'*mut' if part.group(1) else '*const'} {part.group(2)}", f"{name}_len: usize"]
+    if kind.startswith("&mut "):
+        return [f"{name}: *mut {kind[5:]}"]
+    return [f"{name}: {kind}"]
+
+
+def compare(where, expected, found):
+    for line in expected:
+        if line not in found:
+            say(where, line, "no such declaration")
+    for line in found:
+        if line not in expected:
+            say(where, "no such declaration", line)
+    if sorted(expected) == sorted(found) and expected != found:
+        say(where, "the order of the exports", "another order")
+
+
+def check_c(header):
+    expected = []
+    for name, parameters, result in exports():
+        inside = ", ".join(word for one, kind in parameters for word in c_parameters(one, kind))
+        expected.append(f"{c_type(result)} {name}({inside});")
+    bare = re.sub(r"/\*.*?\*/", "", header, flags=re.S)
+    compare("header", expected, [squeeze(line) for line in re.findall(r"^\w[\w ]*\bklov_\w+\([^;]*\);", bare, re.M)])
+    for name in ("Answer", "Tallied", "Opened"):
+        expected = [f"{c_type(kind)} {field};" for field, kind in fields(RATTLE, name)]
+        inside = re.search(r"typedef struct \{([^}]*)\} klov_" + name.lower() + ";", bare).group(1)
+        compare("klov_" + name.lower(), expected, [squeeze(line) for line in inside.strip().splitlines()])
+    size, align, _ = layout("crates/reader/src/lib.rt", "Reader")
+    check_constant(header, "KLOV_READER_SIZE", size)
+    check_constant(header, "KLOV_READER_ALIGN", align)
+    for name, (path, word) in CONSTANTS.items():
+        value = re.search(r"pub const " + word + r": usize = ([\w]+);", text(path)).group(1)
+        check_constant(header, name, int(value.replace("_", ""), 0))
+    if layout(RATTLE, "Opened")[2][1] != ("reader", layout(RATTLE, "Answer")[0]):
+        say("klov_opened", "the reader right after the answer", layout(RATTLE, "Opened")[2])
+    for number in range(1, 15):
+        if not re.search(rf"^ \* +{number}  \S", header, re.M):
+            say("header", f"a line for refusal {number}", "none")
+
+
+def check_constant(header, name, value):
+    found = re.search(rf"^#define {name} (\d+)u$", header, re.M)
+    if not found or int(found.group(1)) != value:
+        say(name, value, found and found.group(1))
+
+
+def check_rust(source):
+    expected = []
+    for name, parameters, result in exports():
+        inside = ", ".join(word for one, kind in parameters for word in rust_parameters(one, kind))
+        expected.append(f"fn {name}({inside}) -> {result};")
+    outside = re.search(r'extern "C" \{(.*?)\n\}', source, re.S).group(1)
+    found = [squeeze(line).replace("( ", "(").replace(", )", ")") for line in re.findall(r"fn klov_\w+\(.*?;", outside, re.S)]
+    compare("Rust", expected, found)
+
+
+def check_archive(archive):
+    listed = subprocess.run(["nm", archive], capture_output=True, text=True, check=True).stdout
+    compare("archive", sorted(name for name, _, _ in exports()), sorted(re.findall(r" T (klov_\w+)$", listed, re.M)))
+
+
+def check_compiled(path):
+    """What a C compiler makes of the header: the structs' sizes and the reader's alignment. Any machine's compiler will do."""
+    lines = [f'#include "{path}"']
+    for name in ("Answer", "Tallied", "Opened"):
+        lines.append(f'_Static_assert(sizeof(klov_{name.lower()}) == {layout(RATTLE, name)[0]}, "size");')
+    size, align, _ = layout("crates/reader/src/lib.rt", "Reader")
+    lines.append(f'_Static_assert(sizeof(klov_reader) == {size} && _Alignof(klov_reader) == {align}, "reader");')
+    lines.append(f'_Static_assert(offsetof(klov_opened, reader) == {layout(RATTLE, "Answer")[0]}, "opened");')
+    done = subprocess.run(["cc", "-std=c11", "-Wall", "-Wextra", "-Werror", "-I.", "-fsyntax-only", "-xc", "-"], input="\n".join(lines), capture_output=True, text=True)
+    if done.returncode:
+        say("compiled header", "its sizes", done.stderr.strip())
+
+
+def main():
+    check_c(text(sys.argv[1]))
+    check_rust(text(sys.argv[2]))
+    check_compiled(sys.argv[1])
+    if len(sys.argv) > 3:
+        check_archive(sys.argv[3])
+    for line in wrong:
+        print("header:", line)
+    if not wrong:
+        print(f"header: {len(exports())} exports, the header, the Rust declarations and the sizes agree")
+    sys.exit(1 if wrong else 0)
+
+
+main()

@@ -1,0 +1,17 @@
+-- `klovdrun::klov_tally` meets its contract: the tally's answer, as its numbers.
+-- Assumes nothing.
+use borrow.Author.Needs.{needs}
+use Rattle.klovdrun.proofs.klov_tally.Statement.{statement}
+use Rattle.klovdrun.proofs.klov_tally.Tie as tie
+
+tally-requires : tie.Need-tally-requires
+tally-requires c κs = search needs
+
+of-tally-requires : tie.Need-of-tally-requires
+of-tally-requires c κs = search needs
+
+returns : tie.Need-returns
+returns c = cc
+
+pub klov-tally-spec : {M : Type 1} → statement M
+klov-tally-spec = tie.close (tie.spec tally-requires of-tally-requires returns)

@@ -1,0 +1,57 @@
+-- What an export promises that wraps a call and lends it memory: the wrapped call's own outcome, of which the export hands over the
+-- numbers. Assumes nothing.
+use Prim.Native.Nat.{ℕ}
+use mathlib.Core.Path.{_≡_}
+use mathlib.Core.List.{List}
+use Rattle.refusals.specs.Said.{Said}
+use Rattle.sp.specs.declared.Demuxed.{Demuxed}
+use Rattle.sp.specs.Readings.{Reading}
+use Rattle.sp.specs.Outcome.{Demuxes, demuxedSays}
+use Rattle.qp.specs.Segments.{Reading as QpReading}
+use Rattle.qp.specs.Outcome.{Demuxes as QpDemuxes, demuxedSays as qpSays}
+use Rattle.qp7.specs.Walk.{Gathered}
+use Rattle.qp7.specs.Outcome.{Demuxes as Qp7Demuxes, demuxedSays as qp7Says}
+use Rattle.frames.specs.Fetch.{Fills, fetchedSays}
+use Rattle.reader.specs.declared.Reader.{Reader}
+use Rattle.reader.specs.declared.Step.{Step}
+use Rattle.reader.specs.Calls.{Opens}
+use Rattle.reader.specs.History.{OwedCall}
+use Rattle.klovdrun.specs.declared.Answer.{Answer}
+use Rattle.klovdrun.specs.declared.Opened.{Opened}
+use Rattle.klovdrun.specs.Numbers.{oneNumber, qpNumbers, qp7Numbers, standNumbers, owingNumbers}
+
+-- the wrapped call has this outcome with some answer, and r is that answer's numbers
+pub record Carries {A : Type 0} (outcome : A → Type 0) (numbersOf : A → Answer) (r : Answer) : Type 0 where
+  pub answer : A
+  pub comes : outcome answer
+  pub numbers-are : r ≡ numbersOf answer
+
+-- the whole readings, and a frame that is filled
+abbrev pub SpCarries : Said Reading → List ℕ → List ℕ → List ℕ → List ℕ → Answer → Type 0
+SpCarries reading out out′ counts counts′ r =
+    Carries (Demuxes reading out out′ counts counts′) (λ answer. oneNumber (demuxedSays answer)) r
+
+abbrev pub QpCarries : Said QpReading → List ℕ → List ℕ → Answer → Type 0
+QpCarries reading table table′ r = Carries (QpDemuxes reading table table′) (λ answer. qpNumbers (qpSays answer)) r
+
+abbrev pub Qp7Carries : Said Gathered → List ℕ → List ℕ → List ℕ → List ℕ → Answer → Type 0
+Qp7Carries reading records records′ segments segments′ r =
+    Carries (Qp7Demuxes reading records records′ segments segments′) (λ answer. qp7Numbers (qp7Says answer)) r
+
+abbrev pub FillCarries : List ℕ → ℕ → ℕ → List ℕ → List ℕ → Answer → Type 0
+FillCarries f q size scratch scratch′ r =
+    Carries (Fills f q size scratch scratch′) (λ answer. standNumbers (fetchedSays answer)) r
+
+-- a reader's call that answered so and handed this reader back
+abbrev pub stepTo : Reader → Demuxed → Step
+stepTo reader answer = record { answer = answer; reader = reader }
+
+-- open: the reader stands beside the answer
+abbrev pub OpenCarries : ℕ → Opened → Type 0
+OpenCarries kind r =
+    Carries (λ answer. Opens kind (stepTo (r .reader) answer)) (λ answer. oneNumber (demuxedSays answer)) (r .answer)
+
+-- a reader is advanced where it stands: what the call hands back is stored there, and r has the frames that it then owes
+pub record Advances (call : Step → Type 0) (stored : Reader) (r : Answer) : Type 0 where
+  pub carries : Carries (λ answer. call (stepTo stored answer)) (λ answer. owingNumbers (r .second) (demuxedSays answer)) r
+  pub owed-is : OwedCall stored (r .second)
