@@ -15,7 +15,7 @@
  * Refusals, each with its number, its cause and the number beside it:
  *    1  under 4 bytes, or not a magic that the call takes                                  0
  *    2  input over the limit: a whole file, or all pieces together                         268435456
- *    3  a file shorter than its header, or an end inside a header that is not complete     where the audio starts
+ *    3  a file shorter than its header, or an end after some bytes of a header, not all    where the audio starts
  *    4  QP7: fewer than 2 bytes where a record is to be read                               that place in the payload stream
  *    5  QP7: a record runs past the payload stream                                         its place in the payload stream
  *    6  a piece after the end or while draining; the strict end while draining             0
@@ -114,7 +114,7 @@ klov_answer klov_demux_ds2_qp(const uint8_t *file, size_t file_len, uint32_t *ta
 klov_answer klov_demux_ds2_qp7(const uint8_t *file, size_t file_len, uint32_t *records, size_t records_len, uint32_t *segments, size_t segments_len);
 
 /* Frame k of a QP segment that has `length` bytes from `start` on. first: its place in the payload stream; second: its size. Both are 0
- * when it is missing. Refuses nothing. */
+ * when it is missing, or when its place would not fit 64 bits. Refuses nothing. */
 klov_answer klov_frame(uint64_t start, uint64_t length, uint64_t k);
 
 /* `size` bytes of a DS2 file's payload stream: a frame, or a QP7 record, whose second byte has its size. first 0: they are the file's bytes
@@ -135,7 +135,7 @@ klov_opened klov_open(uint64_t kind);
  * A piece is taken whole or refused: 6, 2, 7, 8. */
 klov_answer klov_piece(klov_reader *reader, const uint8_t *piece, size_t piece_len, uint8_t *out, size_t out_len, uint8_t *counts, size_t counts_len);
 
-/* The strict end succeeds with no packets, and has then ended the reader, or refuses: 6, 3, 13, 14. */
+/* The strict end succeeds with no packets, and has then ended the reader, or refuses: 6, 3, 13, 14. On no input it succeeds. */
 klov_answer klov_strict_end(klov_reader *reader);
 
 /* The lenient end drops a block that is not whole, and hands out packets that are owed, zeros where the file has no bytes, as many as there

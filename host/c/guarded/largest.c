@@ -1,0 +1,155 @@
+/* The largest sizes: files of exactly the limit, which begin and end at inaccessible pages at once, and of one byte more,
+ * whole and in a few huge pieces. Most of a file is zero pages that are never touched; only the last test fills one. Rests on
+ * whole.c and pieces.c. */
+#include "guarded.h"
+
+#include <stdio.h>
+#include <string.h>
+
+static struct area big;
+
+/* Blocks that announce something, counted from the front, or from the end where negative. Their payloads are not zeros. */
+static const struct {
+    int64_t block;
+    uint8_t head[HEAD];
+} placed[] = {
+    {0, {0x8F, 3, 9, 0xFF, 0, 0xFF}}, {1, {0x0F, 5, 3, 0xFF, 0, 0xFF}}, {3, {0x8F, 200, 12, 0xFF, 0, 0xFF}},
+    {262144, {0x0F, 3, 5, 0xFF, 0, 0xFF}}, {-2, {0x0F, 250, 2, 0xFF, 0, 0xFF}}, {-1, {0x0F, 60, 4, 0xFF, 0, 0xFF}},
+};
+
+/* Where such a block stands in a file of the limit's length that begins at `at`. */
+static uint8_t *placed_at(uint8_t *at, const char *magic, size_t i)
+{
+    size_t start = magic[0] == 2 ? 1024 : DS2_START;
+    int64_t blocks = (LIMIT - (int64_t)start) / BLOCK;
+    return at + start + BLOCK * (size_t)(placed[i].block < 0 ? blocks + placed[i].block : placed[i].block);
+}
+
+/* Writes the magic and the announcing blocks. */
+static void lay(uint8_t *at, const char *magic, uint8_t type, uint8_t last_count)
+{
+    area_allow(&big, 0, big.size, true);
+    memcpy(at, magic, 4);
+    for (size_t i = 0; i < sizeof placed / sizeof *placed; i++) {
+        uint8_t *to = placed_at(at, magic, i);
+        for (size_t k = 0; k < BLOCK; k++)
+            to[k] = (uint8_t)(k * 13 + 50 * i + type);
+        memcpy(to, placed[i].head, HEAD);
+        to[4] = type;
+        if (placed[i].block == -1)
+            to[2] = last_count;
+    }
+}
+
+/* Zeros again, in their place. */
+static void unlay(uint8_t *at, const char *magic)
+{
+    area_allow(&big, 0, big.size, true);
+    for (size_t i = 0; i < sizeof placed / sizeof *placed; i++)
+        memset(placed_at(at, magic, i), 0, BLOCK);
+    memset(at, 0, 4);
+}
+
+/* Exactly the limit. The area has a page more, which is then inaccessible. */
+static void whole_at_limit(const char *magic, uint8_t type, uint8_t last_count)
+{
+    lay(big.view, magic, type, last_count);
+    area_allow(&big, 0, LIMIT, false);
+    whole_calls((struct slice){big.view, LIMIT});
+    unlay(big.view, magic);
+}
+
+/* One byte more, at either edge: every whole call refuses, and the detections answer. */
+static void whole_over_limit(const char *magic, uint8_t type)
+{
+    for (int i = 0; i < 2; i++) {
+        side = i == 0 ? AT_END : AT_START;
+        uint8_t *at = big.view + (side == AT_END ? PAGE - 1 : 0);
+        lay(at, magic, type, 4);
+        area_allow(&big, 0, big.size, false);
+        whole_calls((struct slice){at, (size_t)LIMIT + 1});
+        unlay(at, magic);
+    }
+}
+
+/* A piece of the file: all that is not lent is inaccessible during the call. The model looks at the file before. */
+static void give(struct modelled *m, klov_reader *r, size_t from, size_t len, bool one_short)
+{
+    area_allow(&big, 0, big.size, false);
+    uint64_t needed = model_needed(m, len);
+    uint64_t room = one_short ? needed - 1 : needed;
+    struct answer want = model_piece(m, len, room, want_out, want_counts);
+    area_allow(&big, from, (from + len + PAGE - 1) / PAGE * PAGE, false);
+    struct question q = {.export = PIECE, .in = {big.view + from, len}, .reader = r, .b_len = PACKET * room, .c_len = room};
+    expect(&q, &want);
+    area_allow(&big, 0, big.size, false);
+}
+
+/* All of the file in pieces; then a byte more is refused, an empty piece is not, and the reader can be ended. */
+static void pieces_to_limit(uint64_t kind, const size_t *cuts, size_t n)
+{
+    klov_reader *r = expect_open(kind);
+    struct modelled m = model_open(kind, big.view);
+    give(&m, r, 0, (size_t)LIMIT + 1, false);
+    for (size_t i = 0; i + 1 < n; i++) {
+        if (i == 1)
+            give(&m, r, 0, LIMIT, false);
+        if (i == 1 && model_needed(&m, cuts[2] - cuts[1]) > 0)
+            give(&m, r, cuts[1], cuts[2] - cuts[1], true);
+        give(&m, r, cuts[i], cuts[i + 1] - cuts[i], false);
+        check_number("bytes joined", cuts[i + 1], m.joined.len);
+    }
+    give(&m, r, 0, 1, false);
+    give(&m, r, PAGE, 0, false);
+    expect_strict(&m, r);
+    expect_lenient(&m, r, 100 * PACKET, 7);
+    expect_lenient(&m, r, 1000 * PACKET, 1000);
+    expect_strict(&m, r);
+}
+
+/* Every block announces, and on the whole a little more than there is, so that the reader never has much unread. */
+static void fill_all(void)
+{
+    uint64_t word = 88172645463325252u;
+    area_allow(&big, 0, big.size, true);
+    for (size_t i = 0; i < LIMIT; i += sizeof word) {
+        word ^= word << 13;
+        word ^= word >> 7;
+        word ^= word << 17;
+        memcpy(big.view + i, &word, sizeof word);
+    }
+    for (size_t at = DS2_START; at < LIMIT; at += BLOCK)
+        memcpy(big.view + at, (uint8_t[HEAD]){0x8F, 3, at / BLOCK % 2 == 0 ? 12 : 13, 0xFF, 0, 0xFF}, HEAD);
+    memcpy(big.view, "\3ds2", 4);
+    area_allow(&big, 0, big.size, false);
+}
+
+void largest(void)
+{
+    static const size_t sparse[] = {0, 5 * PAGE, 40000 * PAGE, 40001 * PAGE, LIMIT}, single[] = {0, LIMIT};
+    static const size_t dense[] = {0, 16000 * PAGE, 33000 * PAGE, 49000 * PAGE, 49001 * PAGE, LIMIT};
+    big = area_reserved((size_t)LIMIT + PAGE);
+    seed_draws(1);
+    about("largest DSS file", 2);
+    whole_at_limit("\2dss", 0, 4);
+    whole_over_limit("\2dss", 0);
+    lay(big.view, "\3dss", 0, 30);
+    pieces_to_limit(3, sparse, 5);
+    pieces_to_limit(3, single, 2);
+    unlay(big.view, "\3dss");
+    static const uint8_t types[] = {0, 6, 7};
+    for (size_t i = 0; i < sizeof types; i++) {
+        about("largest DS2 file of type", types[i]);
+        whole_at_limit(types[i] == 6 ? "\7ds2" : "\1ds2", types[i], 4);
+        whole_over_limit("\3ds2", types[i]);
+    }
+    about("largest DS2 file of type 7, refused,", 7);
+    whole_at_limit("\1ds2", 7, 200);
+    about("largest DS2 file in pieces", 3);
+    fill_all();
+    pieces_to_limit(0, dense, 6);
+    struct file f = {big.view, LIMIT};
+    struct answer want = model_tally(f, &lists);
+    area_allow(&big, 0, LIMIT, false);
+    expect(&(struct question){.export = TALLY, .in = {big.view, LIMIT}}, &want);
+}

@@ -1,0 +1,188 @@
+/* A reader's calls: any cut of a file, rooms that are one short and then exact, ends in every state, frames owed asked by an
+ * empty piece, readers that are moved and copied. Rests on the model's reader. */
+#include "guarded.h"
+
+#include <string.h>
+
+/* Puts a reader into an area of its own, byte by byte. */
+static klov_reader *place_reader(int which, const klov_reader *from)
+{
+    struct slice s = lend_canary(&reader_areas[which], sizeof *from);
+    for (size_t i = 0; i < sizeof *from; i++)
+        s.at[i] = ((const uint8_t *)from)[i];
+    return (klov_reader *)s.at;
+}
+
+/* On one side a reader stands still; on the other it moves after each call, and its old bytes are overwritten. */
+static klov_reader *moved(klov_reader *r)
+{
+    if (side == AT_END || (uint8_t *)r == reader_areas[2].view)
+        return r;
+    int to = (uint8_t *)r == reader_areas[0].view;
+    klov_reader *next = place_reader(to, r);
+    memset(r, 0xEE, sizeof *r);
+    return next;
+}
+
+static struct answer opened_as(uint64_t kind)
+{
+    return kind == 0 || kind == 2 || kind == 3 ? answered(0, 0) : refused(10, kind);
+}
+
+klov_reader *expect_open(uint64_t kind)
+{
+    static klov_reader fresh;
+    struct answer want = opened_as(kind);
+    expect(&(struct question){.export = OPEN, .x = kind, .reader = &fresh}, &want);
+    return place_reader(0, &fresh);
+}
+
+static uint64_t room_of(uint64_t out_len, uint64_t counts_len)
+{
+    return out_len / PACKET < counts_len ? out_len / PACKET : counts_len;
+}
+
+void expect_piece(struct modelled *m, klov_reader *r, struct slice piece, uint64_t out_len, uint64_t counts_len)
+{
+    struct answer want = model_piece(m, piece.len, room_of(out_len, counts_len), want_out, want_counts);
+    struct question q = {.export = PIECE, .in = piece, .reader = r, .b_len = out_len, .c_len = counts_len};
+    expect(&q, &want);
+}
+
+void expect_strict(struct modelled *m, klov_reader *r)
+{
+    struct answer want = model_strict(m);
+    expect(&(struct question){.export = STRICT_END, .reader = r}, &want);
+}
+
+void expect_lenient(struct modelled *m, klov_reader *r, uint64_t out_len, uint64_t counts_len)
+{
+    struct answer want = model_lenient(m, room_of(out_len, counts_len), want_out, want_counts);
+    expect(&(struct question){.export = LENIENT_END, .reader = r, .b_len = out_len, .c_len = counts_len}, &want);
+}
+
+/* An empty piece asks what is owed: it is taken while the reader takes pieces, and else refused by 6. */
+static void ask_owed(struct modelled *m, klov_reader *r)
+{
+    expect_piece(m, r, lend_copy(&piece_area, "", 0), 0, 0);
+}
+
+/* In this state no piece is taken. */
+static void no_more_pieces(struct modelled *m, klov_reader *r)
+{
+    ask_owed(m, r);
+    expect_piece(m, r, lend_copy(&piece_area, "x", 1), PACKET, 1);
+}
+
+/* Ends a reader: strictly, if that succeeds, else by lenient ends with little room. */
+static void end_reader(struct modelled *m, klov_reader *r)
+{
+    expect_strict(m, r);
+    ask_owed(m, r);
+    if (m->phase == TAKING)
+        expect_lenient(m, r, draw(PACKET), draw(3));
+    for (int turn = 0; m->phase == DRAINING; turn++) {
+        no_more_pieces(m, r);
+        expect_strict(m, r);
+        uint64_t room = turn == 0 ? 1 : 1 + draw(model_owed(m) + 1);
+        expect_lenient(m, r, PACKET * room + draw(PACKET), turn == 1 ? 0 : room + draw(2));
+        r = moved(r);
+    }
+    if (m->phase != ENDED)
+        return;
+    no_more_pieces(m, r);
+    expect_lenient(m, r, 3 * PACKET, 3);
+    expect_strict(m, r);
+    expect_lenient(m, r, 0, 0);
+    no_more_pieces(m, r);
+}
+
+/* A piece with too little room in each way, and then with enough. */
+static void give(struct modelled *m, klov_reader *r, uint64_t len)
+{
+    uint64_t needed = model_needed(m, len);
+    struct slice piece = lend_copy(&piece_area, m->joined.at + m->joined.len, len);
+    if (needed > 0) {
+        expect_piece(m, r, piece, PACKET * needed - 1, needed);
+        expect_piece(m, r, piece, PACKET * needed, needed - 1);
+    }
+    if (needed > 1 && draw(4) == 0)
+        expect_piece(m, r, piece, 0, 0);
+    if (draw(2) == 0)
+        expect_piece(m, r, piece, PACKET * needed, needed);
+    else
+        expect_piece(m, r, piece, PACKET * (needed + draw(3)) + draw(PACKET), needed + draw(3));
+}
+
+/* A copy is ended, fed or not, and the original does not notice. */
+static void copy_goes_on(const struct modelled *m, const klov_reader *r, struct file f)
+{
+    struct modelled twin = *m;
+    klov_reader *copy = place_reader(2, r);
+    if (draw(2) == 0)
+        give(&twin, copy, draw(f.len - m->joined.len + 1));
+    end_reader(&twin, copy);
+}
+
+static uint64_t draw_cut(const struct modelled *m, uint64_t rest, uint64_t manner)
+{
+    uint64_t to_edge = BLOCK - m->joined.len % BLOCK;
+    const uint64_t cuts[] = {rest, 1 + draw(2 * BLOCK), draw(8 * BLOCK), to_edge, to_edge - 1, to_edge + 1, draw(3)};
+    uint64_t cut = cuts[manner == 0 ? 0 : manner < 4 ? draw(7) : 1 + draw(5)];
+    return cut < rest ? cut : rest;
+}
+
+void reader_calls(struct file f, uint64_t kind)
+{
+    klov_reader *r = expect_open(kind);
+    struct modelled m = model_open(kind, f.at);
+    uint64_t manner = draw(8);
+    ask_owed(&m, r);
+    for (int turn = 0; m.joined.len < f.len && turn < 300; turn++) {
+        uint64_t before = m.joined.len;
+        uint64_t len = draw_cut(&m, f.len - before, manner);
+        if (draw(9) == 0)
+            copy_goes_on(&m, r, f);
+        give(&m, r, len);
+        r = moved(r);
+        if (draw(2) == 0)
+            ask_owed(&m, r);
+        if (m.joined.len == before && len > 0)
+            break; /* refused by 7: nothing more fits */
+        struct modelled strict = m;
+        if (draw(6) == 0 && model_strict(&strict).numbers[0] != 0)
+            expect_strict(&m, r);
+    }
+    end_reader(&m, r);
+}
+
+/* The reader right after an answer that stands at an edge is the fresh one. */
+static void open_at_edge(uint64_t kind)
+{
+    static struct area place;
+    if (place.size == 0)
+        place = area_to_write(sizeof(klov_opened));
+    struct slice s = lend_canary(&place, sizeof(klov_opened));
+    struct answer want = opened_as(kind);
+    expect(&(struct question){.export = OPEN, .in = s, .x = kind}, &want);
+    check_canary("opened", &place, s, s.at, s.len);
+    struct modelled m = model_open(kind, (const uint8_t *)"");
+    end_reader(&m, place_reader(0, (klov_reader *)(s.at + sizeof(klov_answer))));
+}
+
+/* Every kind there is, many that there are not, and readers that have nothing, a part of a header, or just a header. */
+void reader_opens(void)
+{
+    static const uint64_t kinds[] = {0, 1, 2, 3, 4, 5, 7, 255, 256, 258, 1ull << 32, (1ull << 32) + 2, 1ull << 63, UINT64_MAX};
+    static const uint8_t zeros[2 * DS2_START];
+    for (size_t i = 0; i < sizeof kinds / sizeof *kinds; i++) {
+        about("reader of kind", kinds[i]);
+        open_at_edge(kinds[i]);
+        for (size_t len = 0; len < sizeof zeros; len += len == 0 || len % BLOCK == BLOCK - 1 || len % BLOCK == 0 ? 1 : BLOCK - 2) {
+            klov_reader *r = expect_open(kinds[i]);
+            struct modelled m = model_open(kinds[i], zeros);
+            give(&m, r, len);
+            end_reader(&m, r);
+        }
+    }
+}

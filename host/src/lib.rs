@@ -1,0 +1,41 @@
+//! Klovdrun for Rust hosts: a demuxer for dictation recordings, DSS and DS2, over the archive `libklovdrun.a`.
+//! It rests on `include/klovdrun.h`; all that crosses the boundary is in the private module `raw`.
+//!
+//! [`demux`] has the names and signatures of dss-codec's module of that name, so that a host can change the one for the other. What
+//! is added stands beside it: [`Packets`] with the count of file bytes of each packet, [`Reader`] for pieces without an allocation,
+//! [`places`] and [`frames`] for bytes that stay in the file, [`tally`](tally()) for a file in numbers, and [`ReadSizes`], which
+//! tells short packets.
+//! Every call answers, or refuses by an [`error::Refusal`]; a refused call changes nothing.
+#![deny(unsafe_code)]
+#![warn(missing_docs)]
+
+#[cfg(not(all(target_arch = "x86_64", target_pointer_width = "64", unix)))]
+compile_error!("libklovdrun.a is for x86-64 with the System V calling convention");
+
+pub mod demux;
+pub mod error;
+pub mod frames;
+mod packets;
+pub mod places;
+mod raw;
+mod reader;
+mod sizes;
+mod tally;
+
+pub use error::{Refusal, Result};
+pub use packets::Packets;
+pub use places::{FilePlace, StreamPlace};
+pub use reader::Reader;
+pub use sizes::ReadSizes;
+pub use tally::{tally, Tally};
+
+/// The longest input in bytes, whole or in pieces.
+pub const LIMIT: usize = 268_435_456;
+/// Bytes of a packet.
+pub const PACKET: usize = 42;
+/// Bytes of a QP frame, and so of a scratch.
+pub const FRAME: usize = 56;
+/// Bytes of a block.
+pub const BLOCK: usize = 512;
+/// Bytes of a block's payload.
+pub const PAYLOAD: usize = 506;

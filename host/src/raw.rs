@@ -1,0 +1,233 @@
+//! The boundary: the archive's C declarations, and a thin safe function over slices for each. It rests on `include/klovdrun.h`.
+//! All unsafe code of the crate is here. What the header forbids cannot be written outside of it: a slice is never null and has as
+//! many elements as it says, two slices of which one is mutable share no byte, and a reader's words are private and from `open`.
+#![allow(unsafe_code)]
+
+use crate::error::{Refusal, Result};
+use std::mem::{align_of, size_of};
+
+const READER_SIZE: usize = 12928;
+
+/// `klov_answer`.
+#[repr(C)]
+#[derive(Clone, Copy)]
+struct Answer {
+    refusal: u64,
+    beside: u64,
+    first: u64,
+    second: u64,
+}
+
+/// `klov_tallied`: a file in numbers.
+#[repr(C)]
+#[derive(Clone, Copy)]
+pub(crate) struct Tallied {
+    refusal: u64,
+    beside: u64,
+    pub(crate) kind: u64,
+    pub(crate) start: u64,
+    pub(crate) blocks: u64,
+    pub(crate) announced: u64,
+    pub(crate) handed: u64,
+    pub(crate) short_count: u64,
+    pub(crate) bytes: u64,
+}
+
+/// `klov_reader`: what is in it is its own. It may be copied and moved as a whole.
+#[repr(C)]
+#[derive(Clone)]
+pub(crate) struct Reader {
+    opaque: [u64; READER_SIZE / 8],
+}
+
+/// `klov_opened`.
+#[repr(C)]
+struct Opened {
+    answer: Answer,
+    reader: Reader,
+}
+
+const _: () = assert!(size_of::<Answer>() == 32 && align_of::<Answer>() == 8);
+const _: () = assert!(size_of::<Tallied>() == 72 && align_of::<Tallied>() == 8);
+const _: () = assert!(size_of::<Reader>() == READER_SIZE && align_of::<Reader>() == 8);
+const _: () = assert!(size_of::<Opened>() == 32 + READER_SIZE && align_of::<Opened>() == 8);
+
+extern "C" {
+    fn klov_detect_format(file: *const u8, file_len: usize) -> u8;
+    fn klov_detect_ds2_audio_start(file: *const u8, file_len: usize) -> usize;
+    fn klov_detect_ds2_format_type(file: *const u8, file_len: usize, header_size: usize) -> u8;
+    fn klov_is_ds2_audio_block_header(header: *const u8, header_len: usize) -> u8;
+    fn klov_payload(file: *const u8, file_len: usize, block: usize) -> Answer;
+    fn klov_demux_dss(file: *const u8, file_len: usize, out: *mut u8, out_len: usize, counts: *mut u8, counts_len: usize) -> Answer;
+    fn klov_demux_ds2_sp(
+        file: *const u8,
+        file_len: usize,
+        out: *mut u8,
+        out_len: usize,
+        counts: *mut u8,
+        counts_len: usize,
+    ) -> Answer;
+    fn klov_demux_ds2_qp(file: *const u8, file_len: usize, table: *mut u32, table_len: usize) -> Answer;
+    fn klov_demux_ds2_qp7(
+        file: *const u8,
+        file_len: usize,
+        records: *mut u32,
+        records_len: usize,
+        segments: *mut u32,
+        segments_len: usize,
+    ) -> Answer;
+    fn klov_frame(start: u64, length: u64, k: u64) -> Answer;
+    fn klov_fetch(
+        file: *const u8,
+        file_len: usize,
+        stream_place: usize,
+        size: usize,
+        scratch: *mut u8,
+        scratch_len: usize,
+    ) -> Answer;
+    fn klov_show(
+        file: *const u8,
+        file_len: usize,
+        stream_place: usize,
+        size: usize,
+        scratch: *const u8,
+        scratch_len: usize,
+    ) -> Answer;
+    fn klov_tally(file: *const u8, file_len: usize) -> Tallied;
+    fn klov_open(kind: u64) -> Opened;
+    fn klov_piece(
+        reader: *mut Reader,
+        piece: *const u8,
+        piece_len: usize,
+        out: *mut u8,
+        out_len: usize,
+        counts: *mut u8,
+        counts_len: usize,
+    ) -> Answer;
+    fn klov_strict_end(reader: *mut Reader) -> Answer;
+    fn klov_lenient_end(reader: *mut Reader, out: *mut u8, out_len: usize, counts: *mut u8, counts_len: usize) -> Answer;
+}
+
+fn accepted<T>(refusal: u64, beside: u64, answer: T) -> Result<T> {
+    match refusal {
+        0 => Ok(answer),
+        number => Err(Refusal { number, beside }),
+    }
+}
+
+impl Answer {
+    /// `first` and `second`, or the refusal. A `usize` has 64 bits here, so nothing is cut.
+    fn pair(self) -> Result<(usize, usize)> {
+        accepted(self.refusal, self.beside, (self.first as usize, self.second as usize))
+    }
+
+    fn first(self) -> Result<usize> {
+        self.pair().map(|(first, _)| first)
+    }
+
+    /// What a reader's call answers: packets or the refusal, and the frames owed afterwards, which are told either way.
+    fn step(self) -> (Result<usize>, usize) {
+        (self.first(), self.second as usize)
+    }
+}
+
+pub(crate) fn detect_format(file: &[u8]) -> u8 {
+    unsafe { klov_detect_format(file.as_ptr(), file.len()) }
+}
+
+pub(crate) fn detect_ds2_audio_start(file: &[u8]) -> usize {
+    unsafe { klov_detect_ds2_audio_start(file.as_ptr(), file.len()) }
+}
+
+pub(crate) fn detect_ds2_format_type(file: &[u8], header_size: usize) -> u8 {
+    unsafe { klov_detect_ds2_format_type(file.as_ptr(), file.len(), header_size) }
+}
+
+pub(crate) fn is_ds2_audio_block_header(header: &[u8]) -> bool {
+    unsafe { klov_is_ds2_audio_block_header(header.as_ptr(), header.len()) != 0 }
+}
+
+/// The file place where the block's payload begins.
+pub(crate) fn payload(file: &[u8], block: usize) -> Result<usize> {
+    unsafe { klov_payload(file.as_ptr(), file.len(), block) }.first()
+}
+
+/// How many packets.
+pub(crate) fn demux_dss(file: &[u8], out: &mut [u8], counts: &mut [u8]) -> Result<usize> {
+    unsafe { klov_demux_dss(file.as_ptr(), file.len(), out.as_mut_ptr(), out.len(), counts.as_mut_ptr(), counts.len()) }.first()
+}
+
+/// How many packets.
+pub(crate) fn demux_ds2_sp(file: &[u8], out: &mut [u8], counts: &mut [u8]) -> Result<usize> {
+    unsafe { klov_demux_ds2_sp(file.as_ptr(), file.len(), out.as_mut_ptr(), out.len(), counts.as_mut_ptr(), counts.len()) }.first()
+}
+
+/// How many segments, and how many frames are announced.
+pub(crate) fn demux_ds2_qp(file: &[u8], table: &mut [u32]) -> Result<(usize, usize)> {
+    unsafe { klov_demux_ds2_qp(file.as_ptr(), file.len(), table.as_mut_ptr(), table.len()) }.pair()
+}
+
+/// How many records, and how many segments.
+pub(crate) fn demux_ds2_qp7(file: &[u8], records: &mut [u32], segments: &mut [u32]) -> Result<(usize, usize)> {
+    unsafe {
+        klov_demux_ds2_qp7(
+            file.as_ptr(),
+            file.len(),
+            records.as_mut_ptr(),
+            records.len(),
+            segments.as_mut_ptr(),
+            segments.len(),
+        )
+    }
+    .pair()
+}
+
+/// The frame's place in the payload stream, and its size: 0 when it is missing.
+pub(crate) fn frame(start: usize, length: usize, k: usize) -> (usize, usize) {
+    let answer = unsafe { klov_frame(start as u64, length as u64, k as u64) };
+    (answer.first as usize, answer.second as usize)
+}
+
+/// 0 and the file place where the bytes stand, or 1: they are the scratch's first.
+pub(crate) fn fetch(file: &[u8], place: usize, size: usize, scratch: &mut [u8]) -> Result<(usize, usize)> {
+    unsafe { klov_fetch(file.as_ptr(), file.len(), place, size, scratch.as_mut_ptr(), scratch.len()) }.pair()
+}
+
+/// What `fetch` answers; nothing is written.
+pub(crate) fn show(file: &[u8], place: usize, size: usize, scratch: &[u8]) -> Result<(usize, usize)> {
+    unsafe { klov_show(file.as_ptr(), file.len(), place, size, scratch.as_ptr(), scratch.len()) }.pair()
+}
+
+pub(crate) fn tally(file: &[u8]) -> Result<Tallied> {
+    let tallied = unsafe { klov_tally(file.as_ptr(), file.len()) };
+    accepted(tallied.refusal, tallied.beside, tallied)
+}
+
+/// A fresh reader. The ended one that a refused opening gives is not kept.
+pub(crate) fn open(kind: u64) -> Result<Reader> {
+    let Opened { answer, reader } = unsafe { klov_open(kind) };
+    accepted(answer.refusal, answer.beside, reader)
+}
+
+pub(crate) fn piece(reader: &mut Reader, piece: &[u8], out: &mut [u8], counts: &mut [u8]) -> (Result<usize>, usize) {
+    unsafe {
+        klov_piece(
+            reader,
+            piece.as_ptr(),
+            piece.len(),
+            out.as_mut_ptr(),
+            out.len(),
+            counts.as_mut_ptr(),
+            counts.len(),
+        )
+    }
+    .step()
+}
+
+pub(crate) fn strict_end(reader: &mut Reader) -> (Result<usize>, usize) {
+    unsafe { klov_strict_end(reader) }.step()
+}
+
+pub(crate) fn lenient_end(reader: &mut Reader, out: &mut [u8], counts: &mut [u8]) -> (Result<usize>, usize) {
+    unsafe { klov_lenient_end(reader, out.as_mut_ptr(), out.len(), counts.as_mut_ptr(), counts.len()) }.step()
+}

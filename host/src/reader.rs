@@ -1,0 +1,102 @@
+//! SP recordings in pieces: the archive's reader, and the form that dss-codec's two stream demuxers share over it.
+//! It rests on the reader's three calls, which tell the frames owed in every answer.
+use crate::error::Result;
+use crate::packets::Packets;
+use crate::raw;
+use std::fmt;
+
+/// A reader of SP recordings in pieces. It looks at no magic and no type. It hands packets into lent memory, 42 bytes and a count
+/// each, and allocates nothing; room is the smaller of the two. A copy goes its own way from where it was made.
+#[derive(Clone)]
+pub struct Reader {
+    state: raw::Reader,
+    owed: usize,
+}
+
+impl Reader {
+    /// A fresh reader: kind 0 for DS2 (first byte 1 or 3), 2 or 3 for DSS with that first byte. Refusal 10.
+    pub fn open(kind: u64) -> Result<Reader> {
+        raw::open(kind).map(|state| Reader { state, owed: 0 })
+    }
+
+    /// Takes a piece whole, and answers how many packets it brought; or refuses by 6, 2, 7 or 8, and is as it was: after an 8 the
+    /// same piece can be given again with more room.
+    pub fn piece(&mut self, piece: &[u8], out: &mut [u8], counts: &mut [u8]) -> Result<usize> {
+        let step = raw::piece(&mut self.state, piece, out, counts);
+        self.keep(step)
+    }
+
+    /// Ends a recording that is complete, or refuses by 6, 3, 13 or 14, and is as it was.
+    pub fn strict_end(&mut self) -> Result<()> {
+        let step = raw::strict_end(&mut self.state);
+        self.keep(step).map(|_| ())
+    }
+
+    /// Drops a block that is not whole, and hands out packets that are owed, as many as there is room for, zeros where the file has
+    /// no bytes. It is asked again while [`owed`](Reader::owed) is above 0. Refusal 3.
+    pub fn lenient_end(&mut self, out: &mut [u8], counts: &mut [u8]) -> Result<usize> {
+        let step = raw::lenient_end(&mut self.state, out, counts);
+        self.keep(step)
+    }
+
+    /// How many frames the whole blocks so far have announced that are not handed out.
+    pub fn owed(&self) -> usize {
+        self.owed
+    }
+
+    fn keep(&mut self, (answer, owed): (Result<usize>, usize)) -> Result<usize> {
+        self.owed = owed;
+        answer
+    }
+}
+
+impl fmt::Debug for Reader {
+    fn fmt(&self, to: &mut fmt::Formatter<'_>) -> fmt::Result {
+        to.debug_struct("Reader").field("owed", &self.owed).finish_non_exhaustive()
+    }
+}
+
+/// A reader with room of its own, which grows to the largest that a piece has needed. It knows how many packets the last call brought.
+pub(crate) struct Fed {
+    reader: Reader,
+    room: Packets,
+    brought: usize,
+}
+
+impl Fed {
+    pub(crate) fn open(kind: u64) -> Result<Fed> {
+        Reader::open(kind).map(|reader| Fed { reader, room: Packets::default(), brought: 0 })
+    }
+
+    pub(crate) fn push(&mut self, data: &[u8]) -> Result<Vec<Vec<u8>>> {
+        let Fed { reader, room, .. } = self;
+        let answer = room.fill(|out, counts| reader.piece(data, out, counts));
+        self.handed(answer)
+    }
+
+    pub(crate) fn finish(&mut self) -> Result<Vec<Vec<u8>>> {
+        let answer = self.reader.strict_end().map(|()| 0);
+        self.handed(answer)
+    }
+
+    /// With room for all that is owed, one lenient end hands it out.
+    pub(crate) fn finish_lenient(&mut self) -> Result<Vec<Vec<u8>>> {
+        self.room.make_room(self.reader.owed());
+        let answer = self.reader.lenient_end(&mut self.room.bytes, &mut self.room.counts);
+        self.handed(answer)
+    }
+
+    /// The counts of the packets that the last call brought; none after a refusal.
+    pub(crate) fn counts(&self) -> &[u8] {
+        &self.room.counts[..self.brought]
+    }
+
+    pub(crate) fn owed(&self) -> usize {
+        self.reader.owed()
+    }
+
+    fn handed(&mut self, answer: Result<usize>) -> Result<Vec<Vec<u8>>> {
+        self.brought = answer.unwrap_or(0);
+        answer.map(|packets| self.room.vectors(packets))
+    }
+}

@@ -1,0 +1,369 @@
+// A small model of the format: what every reading answers, in vectors and without a thought of speed. It rests on the format's
+// description alone.
+
+/// A refusal's number and the number beside it.
+pub type Answer<T> = Result<T, (u64, u64)>;
+
+pub const LIMIT: usize = 268_435_456;
+
+#[derive(Debug, Clone, Copy, PartialEq, Eq)]
+pub enum Kind {
+    DssSp,
+    Ds2Sp,
+    Qp,
+    Qp7,
+}
+
+/// One read and its packet.
+#[derive(Debug, Clone, PartialEq, Eq)]
+pub struct Packet {
+    pub bytes: Vec<u8>,
+    /// How many bytes of the read came from the stream, and how many it takes.
+    pub count: usize,
+    pub size: usize,
+}
+
+#[derive(Debug, Clone, PartialEq, Eq)]
+pub struct Segment {
+    pub start: usize,
+    pub length: usize,
+    pub frames: usize,
+    pub reset: bool,
+}
+
+/// The records of a QP7 segment, by place and size.
+#[derive(Debug, Clone, PartialEq, Eq)]
+pub struct Records {
+    pub records: Vec<(usize, usize)>,
+    pub reset: bool,
+}
+
+pub fn good_header(header: &[u8]) -> bool {
+    header.len() >= 6
+        && header[0] == 0x0F
+        && header[3] == 0xFF
+        && header[5] == 0xFF
+        && header[2] > 0
+        && [0, 1, 2, 3, 6, 7].contains(&header[4])
+}
+
+pub fn ds2_start(file: &[u8]) -> usize {
+    if file.first() != Some(&7) {
+        return 0x600;
+    }
+    let last = file.len().saturating_sub(6).min(0x10000);
+    let mut best = (0, 0x1000);
+    for place in (512..=last).step_by(512) {
+        let headers = (0..16).map(|block| file.get(place + 512 * block..place + 512 * block + 6));
+        let score = headers.take_while(|header| header.map_or(false, good_header)).count();
+        if score >= 4 {
+            return place;
+        }
+        if score > best.0 {
+            best = (score, place);
+        }
+    }
+    best.1
+}
+
+/// The whole blocks after a place.
+pub fn blocks(file: &[u8], start: usize) -> Vec<&[u8]> {
+    file.get(start..).unwrap_or(&[]).chunks_exact(512).collect()
+}
+
+/// How many whole blocks a file of that length has.
+pub fn whole_blocks(length: usize, start: usize) -> usize {
+    length.saturating_sub(start) / 512
+}
+
+pub fn ds2_type(file: &[u8], start: usize) -> u8 {
+    blocks(file, start).iter().find(|block| block[2] > 0).map_or(0, |block| block[4])
+}
+
+/// What `detect_format` answers, by name.
+pub fn format(file: &[u8]) -> Option<&'static str> {
+    let by_type = |kind| match kind {
+        6 => "Ds2Qp",
+        7 => "Ds2Qp7",
+        _ => "Ds2Sp",
+    };
+    match file.get(..4)? {
+        b"\x06dss" => Some("GrundigSp"),
+        b"\x02dss" | b"\x03dss" => Some("DssSp"),
+        b"\x03enc" if file.len() > 0x604 => Some(by_type(file[0x604])),
+        b"\x01ds2" | b"\x03ds2" | b"\x07ds2" if file.len() > 0x604 && file.len() > ds2_start(file) + 4 => {
+            Some(by_type(ds2_type(file, ds2_start(file))))
+        }
+        _ => None,
+    }
+}
+
+/// How a file is read and where its audio starts, or why it is not.
+pub fn kind(file: &[u8]) -> Answer<(Kind, usize)> {
+    let dss = matches!(file.get(..4), Some(b"\x02dss" | b"\x03dss"));
+    if !dss && !matches!(file.get(..4), Some(b"\x01ds2" | b"\x03ds2" | b"\x07ds2")) {
+        return Err((1, 0));
+    }
+    if file.len() > LIMIT {
+        return Err((2, LIMIT as u64));
+    }
+    let start = if dss { 512 * usize::from(file[0]) } else { ds2_start(file) };
+    if file.len() < start {
+        return Err((3, start as u64));
+    }
+    let kind = match (dss, ds2_type(file, start)) {
+        (true, _) => Kind::DssSp,
+        (_, 0..=5) => Kind::Ds2Sp,
+        (_, 7) => Kind::Qp7,
+        _ => Kind::Qp,
+    };
+    Ok((kind, start))
+}
+
+pub fn stream(file: &[u8], start: usize) -> Vec<u8> {
+    blocks(file, start).iter().flat_map(|block| block[6..].to_vec()).collect()
+}
+
+pub fn announced(file: &[u8], start: usize) -> usize {
+    blocks(file, start).iter().map(|block| usize::from(block[2])).sum()
+}
+
+fn size(swapped: bool) -> usize {
+    if swapped {
+        40
+    } else {
+        42
+    }
+}
+
+/// An SP recording's reads, a list a block: place in the stream, and whether it is swapped.
+fn reads(file: &[u8], kind: Kind, start: usize) -> Vec<Vec<(usize, bool)>> {
+    let blocks = blocks(file, start);
+    let flag = |block: &[u8]| block[0] & 0x80 != 0;
+    let mut place = 0;
+    let mut swapped = blocks.first().map_or(false, |block| flag(block));
+    let mut all = Vec::new();
+    for (number, block) in blocks.iter().enumerate() {
+        if kind == Kind::DssSp {
+            swapped = flag(block);
+            let first = (2 * usize::from(block[1]) + 2 * usize::from(swapped)).saturating_sub(6);
+            place = 506 * number + first.min(506);
+        }
+        let mut of_block = Vec::new();
+        for _ in 0..block[2] {
+            of_block.push((place, swapped));
+            place += size(swapped);
+            swapped = !swapped;
+        }
+        all.push(of_block);
+    }
+    all
+}
+
+/// One packet from the bytes that its read found, and the carried byte afterwards.
+pub fn packet(found: &[u8], swapped: bool, carry: u8) -> (Packet, u8) {
+    let mut read = found.to_vec();
+    read.resize(size(swapped), 0);
+    let (count, size) = (found.len(), read.len());
+    if !swapped {
+        let carried = std::mem::replace(&mut read[40], 0);
+        return (Packet { bytes: read, count, size }, carried);
+    }
+    let bytes = (0..42).map(|i| match i {
+        1 => carry,
+        40 => 0,
+        _ if i % 2 == 0 => read[i + 1],
+        _ => read[i - 3],
+    });
+    (Packet { bytes: bytes.collect(), count, size }, carry)
+}
+
+/// All packets of an SP recording.
+pub fn packets(file: &[u8], kind: Kind, start: usize) -> Vec<Packet> {
+    let stream = stream(file, start);
+    let mut carry = 0;
+    let mut all = Vec::new();
+    for (place, swapped) in reads(file, kind, start).concat() {
+        let (from, to) = (place.min(stream.len()), (place + size(swapped)).min(stream.len()));
+        let (packet, carried) = packet(&stream[from..to], swapped, carry);
+        carry = carried;
+        all.push(packet);
+    }
+    all
+}
+
+/// How many packets a reader has handed out once it has these bytes.
+pub fn ready(file: &[u8], kind: Kind, start: usize) -> usize {
+    let end = 506 * blocks(file, start).len();
+    let complete = |&(place, swapped): &(usize, bool)| place + size(swapped) <= end;
+    let reads = reads(file, kind, start);
+    if kind == Kind::DssSp {
+        reads.iter().take_while(|of_block| of_block.iter().all(complete)).map(Vec::len).sum()
+    } else {
+        reads.concat().iter().take_while(|read| complete(read)).count()
+    }
+}
+
+/// Whether a DS2 reader's hold overflows at some block of these bytes: unread bytes over 12,288 just after it is added.
+pub fn overflows(file: &[u8]) -> bool {
+    let mut owed = 0;
+    let mut unread = 0;
+    let mut swapped = None;
+    for block in blocks(file, 0x600) {
+        let mut parity = swapped.unwrap_or(block[0] & 0x80 != 0);
+        owed += usize::from(block[2]);
+        unread += 506;
+        if unread > 12_288 {
+            return true;
+        }
+        while owed > 0 && unread >= size(parity) {
+            owed -= 1;
+            unread -= size(parity);
+            parity = !parity;
+        }
+        swapped = Some(parity);
+    }
+    false
+}
+
+/// Where the two readings of a DSS recording, whole and in pieces, agree in the original: every announcing block's reads end at or
+/// before the next one's start, and on a multiple of 506 only if no later block announces.
+pub fn dss_pieces_agree(file: &[u8]) -> bool {
+    let (kind, start) = match kind(file) {
+        Ok(told) => told,
+        Err(_) => return false,
+    };
+    let reads: Vec<_> = reads(file, kind, start).into_iter().filter(|of_block| !of_block.is_empty()).collect();
+    reads.windows(2).all(|pair| {
+        let &(place, swapped) = pair[0].last().expect("it announces");
+        let end = place + size(swapped);
+        end <= pair[1][0].0 && end % 506 != 0
+    })
+}
+
+fn first_frame(number: usize, block: &[u8]) -> usize {
+    506 * number + (2 * usize::from(block[1])).saturating_sub(6)
+}
+
+pub fn qp(file: &[u8], start: usize) -> Vec<Segment> {
+    let end = 506 * blocks(file, start).len();
+    let mut segments: Vec<Segment> = Vec::new();
+    let mut close = |from: usize, to: usize, frames: usize| {
+        if frames > 0 {
+            let reset = !segments.is_empty();
+            segments.push(Segment { start: from, length: to.min(end) - from, frames, reset });
+        }
+    };
+    let (mut from, mut to, mut frames) = (0, 0, 0);
+    for (number, block) in blocks(file, start).iter().enumerate() {
+        let first = first_frame(number, block);
+        if number == 0 || first != to {
+            close(from, to, frames);
+            from = first;
+            to = first;
+            frames = 0;
+        }
+        frames += usize::from(block[2]);
+        to += 56 * usize::from(block[2]);
+    }
+    close(from, to, frames);
+    segments
+}
+
+/// The bytes of every frame that is handed out.
+pub fn qp_frames(file: &[u8], start: usize) -> Vec<Vec<u8>> {
+    let stream = stream(file, start);
+    let bytes = |segment: &Segment| stream[segment.start..segment.start + segment.length].chunks(56).map(<[u8]>::to_vec).collect();
+    qp(file, start).iter().flat_map(|segment| -> Vec<_> { bytes(segment) }).collect()
+}
+
+pub fn qp7(file: &[u8], start: usize) -> Answer<Vec<Records>> {
+    let stream = stream(file, start);
+    let mut segments: Vec<Records> = Vec::new();
+    let mut open: Vec<(usize, usize)> = Vec::new();
+    let mut place = 0;
+    let close = |open: &mut Vec<(usize, usize)>, segments: &mut Vec<Records>| {
+        if !open.is_empty() {
+            segments.push(Records { records: std::mem::take(open), reset: !segments.is_empty() });
+        }
+    };
+    for (number, block) in blocks(file, start).iter().enumerate() {
+        if block[2] == 0 {
+            close(&mut open, &mut segments);
+            place = place.max(506 * (number + 1));
+            continue;
+        }
+        place = place.max(first_frame(number, block));
+        for _ in 0..block[2] {
+            let second = stream.get(place + 1).ok_or((4, place as u64))?;
+            let size = if second & 0x80 == 0 { 12 } else { 56 };
+            if place + size > stream.len() {
+                return Err((5, place as u64));
+            }
+            open.push((place, size));
+            place += size;
+        }
+    }
+    close(&mut open, &mut segments);
+    Ok(segments)
+}
+
+/// The bytes of every record.
+pub fn qp7_records(file: &[u8], start: usize) -> Answer<Vec<Vec<u8>>> {
+    let stream = stream(file, start);
+    let records = qp7(file, start)?.into_iter().flat_map(|segment| segment.records);
+    Ok(records.map(|(place, size)| stream[place..place + size].to_vec()).collect())
+}
+
+/// What the intake program says of a file, with its exit status, and what it writes.
+pub fn intake(file: &[u8]) -> (String, i32, Vec<u8>) {
+    match intake_report(file) {
+        Err((number, beside)) => (format!("refused {number} {beside}\n"), 2, Vec::new()),
+        Ok((unit, items, owed, cut)) => {
+            let written = items.iter().flat_map(|(bytes, _)| bytes.clone()).collect();
+            let short: Vec<usize> = (0..items.len()).filter(|&number| items[number].1).collect();
+            let count = items.len();
+            if cut + owed + short.len() == 0 {
+                return (format!("complete: {count} {unit}\n"), 0, written);
+            }
+            let short = ranges(&short);
+            (format!("incomplete: {count} {unit}, {cut} bytes of a cut block, {owed} frames owed, short: {short}\n"), 1, written)
+        }
+    }
+}
+
+/// The unit; each packet, frame or record and whether it is short; frames owed; bytes of a cut block.
+type Report = (&'static str, Vec<(Vec<u8>, bool)>, usize, usize);
+
+fn intake_report(file: &[u8]) -> Answer<Report> {
+    let (kind, start) = kind(file)?;
+    let cut = (file.len() - start) % 512;
+    let (unit, items): (_, Vec<(Vec<u8>, bool)>) = match kind {
+        Kind::Qp => ("frames", qp_frames(file, start).into_iter().map(|frame| (frame.clone(), frame.len() < 56)).collect()),
+        Kind::Qp7 => ("records", qp7_records(file, start)?.into_iter().map(|record| (record, false)).collect()),
+        _ => {
+            let items = packets(file, kind, start).into_iter().map(|packet| (packet.bytes, packet.count < packet.size));
+            ("packets", items.collect())
+        }
+    };
+    let handed = match kind {
+        Kind::Qp7 | Kind::Qp => items.len(),
+        _ => ready(file, kind, start),
+    };
+    Ok((unit, items, announced(file, start) - handed, cut))
+}
+
+/// Numbers in order, as single ones and ranges.
+fn ranges(numbers: &[usize]) -> String {
+    let mut parts = Vec::new();
+    let mut rest = numbers;
+    while let Some(&first) = rest.first() {
+        let run = rest.iter().enumerate().take_while(|&(i, &number)| number == first + i).count();
+        parts.push(if run == 1 { first.to_string() } else { format!("{first}-{}", first + run - 1) });
+        rest = &rest[run..];
+    }
+    if parts.is_empty() {
+        parts.push("none".to_string());
+    }
+    parts.join(" ")
+}

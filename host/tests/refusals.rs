@@ -1,0 +1,276 @@
+// Every refusal, 1 to 14, by its number and the number beside it; that lent memory is as it was, and that a refused reader goes
+// on as if the call had not been made. It rests on the table of refusals in the format's description.
+mod common;
+
+use common::files::{header, recording, Dice};
+use klovdrun::demux::ds2::{self, Ds2QpStreamDemuxer, Ds2SpStreamDemuxer};
+use klovdrun::demux::dss::{self, DssSpStreamDemuxer};
+use klovdrun::{frames, places, tally, Reader, Refusal, StreamPlace, FRAME, LIMIT};
+use std::collections::BTreeSet;
+
+/// The number of a refusal and the number beside it.
+fn told<T>(answer: Result<T, Refusal>) -> (u64, u64) {
+    answer.err().map_or((0, 0), |refusal| (refusal.number, refusal.beside))
+}
+
+/// Makes a call with lent bytes and words, and answers its refusal. If it is refused, not one of them may have changed.
+fn unwritten<T>(call: impl FnOnce(&mut [u8], &mut [u8], &mut [u32], &mut [u32]) -> Result<T, Refusal>) -> (u64, u64) {
+    let (mut out, mut counts, mut records, mut segments) = ([0xA5; 420], [0xA5; 10], [0xA5A5; 8], [0xA5A5; 12]);
+    let refusal = told(call(&mut out, &mut counts, &mut records, &mut segments));
+    let bytes = out.iter().chain(&counts).all(|&byte| byte == 0xA5);
+    let words = records.iter().chain(&segments).all(|&word| word == 0xA5A5);
+    assert!(refusal.0 == 0 || bytes && words);
+    refusal
+}
+
+/// What the whole calls answer of a file: DSS; SP, QP and QP7 of DS2; fetch and show, a payload, and the tally.
+fn whole(file: &[u8]) -> [(u64, u64); 8] {
+    [
+        unwritten(|out, counts, _, _| dss::demux_dss_into(file, out, counts)),
+        unwritten(|out, counts, _, _| ds2::demux_ds2_sp_into(file, out, counts)),
+        unwritten(|_, _, _, table| ds2::demux_ds2_qp_into(file, table)),
+        unwritten(|_, _, records, segments| ds2::demux_ds2_qp7_into(file, records, segments)),
+        unwritten(|scratch, _, _, _| frames::fetch(file, StreamPlace(0), 0, scratch).map(|_| ())),
+        unwritten(|scratch, _, _, _| frames::show(file, StreamPlace(0), 0, scratch).map(|_| ())),
+        told(places::payload(file, 999)),
+        told(tally(file)),
+    ]
+}
+
+/// Magic and zeros.
+fn zeros(magic: &[u8; 4], length: usize) -> Vec<u8> {
+    let mut file = vec![0; length];
+    file[..4].copy_from_slice(magic);
+    file
+}
+
+fn blocks(magic: &[u8; 4], start: usize, headers: &[[u8; 6]]) -> Vec<u8> {
+    recording(magic, start, headers, &mut Dice::new(1))
+}
+
+/// Makes a call that is refused, and answers the refusal. The reader and a copy made before are then fed and ended alike, and must
+/// answer the same.
+fn unmoved(reader: &mut Reader, call: impl FnOnce(&mut Reader, &mut [u8], &mut [u8]) -> Result<usize, Refusal>) -> (u64, u64) {
+    let twin = reader.clone();
+    let refusal = unwritten(|out, counts, _, _| call(reader, out, counts));
+    assert_ne!(refusal.0, 0);
+    assert_eq!(reader.owed(), twin.owed());
+    assert_eq!(later(reader.clone()), later(twin));
+    refusal
+}
+
+/// An answer with the frames owed, packets and counts.
+type Told = (Result<usize, Refusal>, usize, Vec<u8>, Vec<u8>);
+
+/// All that a reader answers when it is given more bytes and ended, strictly and leniently.
+fn later(mut reader: Reader) -> Vec<Told> {
+    let more = blocks(b"\x00\x00\x02\x00", 4, &[header(0x8F, 9, 3, 1), header(0x0F, 200, 40, 1)]);
+    let mut answers = Vec::new();
+    for step in 1..6 {
+        let (mut out, mut counts) = (vec![0; 42 * 300], vec![0; 300]);
+        let answer = match step {
+            1 | 2 => reader.piece(&more[..500 * step], &mut out, &mut counts),
+            3 => reader.strict_end().map(|()| 0),
+            4 => reader.lenient_end(&mut out[..420], &mut counts),
+            _ => reader.lenient_end(&mut out, &mut counts),
+        };
+        answers.push((answer, reader.owed(), out, counts));
+    }
+    answers
+}
+
+/// A reader of that kind that has had these bytes.
+fn fed(kind: u64, bytes: &[u8]) -> Reader {
+    let mut reader = Reader::open(kind).unwrap();
+    reader.piece(bytes, &mut [0; 42 * 300], &mut [0; 300]).unwrap();
+    reader
+}
+
+#[test]
+fn one_not_a_magic_of_the_call() {
+    for file in [&b""[..], b"\x01ds", b"\x02ds", b"\x06dss", b"\x02ds2", b"\x03enc", &zeros(b"RIFF", 5000)] {
+        assert_eq!(whole(file), [(1, 0); 8]);
+        assert_eq!(told(dss::demux_dss(file)), (1, 0));
+        assert_eq!(told(ds2::demux_ds2(file)), (1, 0));
+    }
+    assert_eq!(whole(&zeros(b"\x02dss", 2048))[1..6], [(1, 0); 5]);
+    assert_eq!(whole(&zeros(b"\x03ds2", 2048))[0], (1, 0));
+    assert_eq!(told(Ds2QpStreamDemuxer::new().finish()), (1, 0));
+}
+
+#[test]
+fn two_over_the_limit() {
+    const OVER: (u64, u64) = (2, 268_435_456);
+    let mut file = zeros(b"\x02dss", LIMIT + 1);
+    assert_eq!(whole(&file), [OVER, (1, 0), (1, 0), (1, 0), (1, 0), (1, 0), OVER, OVER]);
+    file[..4].copy_from_slice(b"\x01ds2");
+    assert_eq!(whole(&file), [(1, 0), OVER, OVER, OVER, OVER, OVER, OVER, OVER]);
+    assert_eq!(unmoved(&mut fed(0, &[]), |reader, out, counts| reader.piece(&file, out, counts)), OVER);
+    let mut reader = fed(3, &file[..2000]);
+    assert_eq!(unmoved(&mut reader, |reader, out, counts| reader.piece(&file[..LIMIT - 1999], out, counts)), OVER);
+    let qp = blocks(b"\x01ds2", 1536, &[header(0x0F, 3, 2, 6)]);
+    let mut demuxer = Ds2QpStreamDemuxer::new();
+    demuxer.push(&qp).unwrap();
+    assert_eq!(told(demuxer.push(&file[..LIMIT - qp.len() + 1])), OVER);
+    assert_eq!(demuxer.finish(), Ok(vec![qp[1542..1598].to_vec(), qp[1598..1654].to_vec()]));
+}
+
+#[test]
+fn three_inside_the_header() {
+    for (magic, start) in [(b"\x02dss", 1024), (b"\x03dss", 1536), (b"\x01ds2", 1536), (b"\x03ds2", 1536), (b"\x07ds2", 4096)] {
+        let answers = whole(&zeros(magic, start - 1));
+        let cut = (3, start as u64);
+        assert!(answers.iter().all(|&answer| answer == cut || answer == (1, 0)));
+        assert_eq!((answers[6], answers[7]), (cut, cut));
+        assert_eq!(answers[if magic[3] == b's' { 0 } else { 3 }], cut);
+        assert_eq!(tally(&zeros(magic, start)).map(|tally| tally.blocks), Ok(0));
+    }
+    for (kind, start) in [(0, 1536), (2, 1024), (3, 1536)] {
+        for length in [1, start - 1] {
+            let mut reader = fed(kind, &vec![0; length]);
+            assert_eq!(unmoved(&mut reader, |reader, _, _| reader.strict_end().map(|()| 0)), (3, start as u64));
+            assert_eq!(unmoved(&mut reader, Reader::lenient_end), (3, start as u64));
+        }
+        assert_eq!(fed(kind, &[]).strict_end(), Ok(()));
+    }
+}
+
+#[test]
+fn four_and_five_qp7_records() {
+    for (first, refusal) in [(3, (5, 504)), (4, (4, 506))] {
+        let mut file = blocks(b"\x01ds2", 1536, &[header(0x0F, first, 10, 7)]);
+        file[1542..].fill(0xFF);
+        assert_eq!(whole(&file)[3], refusal);
+        assert_eq!(whole(&file)[7], refusal);
+        assert_eq!(told(ds2::demux_ds2(&file)), refusal);
+        let mut demuxer = Ds2QpStreamDemuxer::new();
+        demuxer.push(&file).unwrap();
+        assert_eq!(told(demuxer.finish_lenient()), refusal);
+    }
+}
+
+#[test]
+fn six_after_the_end_or_while_draining() {
+    let file = blocks(b"\x01ds2", 1536, &[header(0x0F, 3, 20, 0)]);
+    let mut draining = fed(0, &file);
+    assert_eq!(draining.owed(), 8);
+    assert_eq!(draining.lenient_end(&mut [0; 42], &mut [0]), Ok(1));
+    for piece in [&b""[..], b"more", &file] {
+        assert_eq!(unmoved(&mut draining, |reader, out, counts| reader.piece(piece, out, counts)), (6, 0));
+    }
+    assert_eq!(unmoved(&mut draining, |reader, _, _| reader.strict_end().map(|()| 0)), (6, 0));
+    assert_eq!(draining.lenient_end(&mut [0; 420], &mut [0; 10]), Ok(7));
+    let mut ended = fed(2, &[]);
+    ended.strict_end().unwrap();
+    for mut reader in [draining, ended] {
+        assert_eq!(unmoved(&mut reader, |reader, out, counts| reader.piece(b"", out, counts)), (6, 0));
+        assert_eq!((reader.strict_end(), reader.lenient_end(&mut [], &mut [])), (Ok(()), Ok(0)));
+    }
+}
+
+#[test]
+fn seven_the_hold_is_full() {
+    let file = blocks(b"\x01ds2", 1536, &[header(0x0F, 3, 0, 0); 25]);
+    let mut reader = fed(0, &file[..file.len() - 1]);
+    assert_eq!(unmoved(&mut reader, |reader, out, counts| reader.piece(&file[file.len() - 1..], out, counts)), (7, 12288));
+    assert_eq!(unmoved(&mut fed(0, &[]), |reader, out, counts| reader.piece(&file, out, counts)), (7, 12288));
+    let mut demuxer = Ds2SpStreamDemuxer::new();
+    assert_eq!(told(demuxer.push(&file)), (7, 12288));
+    assert_eq!(demuxer.push(&file[..2048]), Ok(Vec::new()));
+}
+
+#[test]
+fn eight_too_little_room() {
+    let heads = [header(0x0F, 3, 11, 0), header(0x8F, 3, 2, 0)];
+    let (dss, sp) = (blocks(b"\x02dss", 1024, &heads), blocks(b"\x01ds2", 1536, &heads));
+    assert_eq!((whole(&dss)[0], whole(&sp)[1]), ((8, 13), (8, 13)));
+    let (mut out, mut counts) = ([0xA5; 42 * 13], [0xA5; 13]);
+    assert_eq!(told(dss::demux_dss_into(&dss, &mut out[1..], &mut counts)), (8, 13));
+    assert_eq!(told(ds2::demux_ds2_sp_into(&sp, &mut out, &mut counts[1..])), (8, 13));
+    assert!(out.iter().chain(&counts).all(|&byte| byte == 0xA5));
+    assert_eq!(ds2::demux_ds2_sp_into(&sp, &mut out, &mut counts), Ok(13));
+    for (kind, file, needed) in [(0, &sp, 13), (2, &dss, 13)] {
+        let answer = unmoved(&mut fed(kind, &file[..700]), |reader, out, counts| reader.piece(&file[700..], out, counts));
+        assert_eq!(answer, (8, needed));
+    }
+    let qp7 = blocks(b"\x01ds2", 1536, &[header(0x0F, 3, 9, 7)]);
+    assert_eq!(whole(&qp7)[3], (8, 9));
+}
+
+#[test]
+fn nine_too_small_a_table() {
+    let heads = |kind| [header(0x0F, 3, 1, kind), header(0x0F, 9, 0, kind), header(0x0F, 3, 1, kind), header(0x0F, 3, 0, kind)];
+    let qp = blocks(b"\x01ds2", 1536, &heads(6).repeat(2));
+    assert_eq!(whole(&qp)[2], (9, 4));
+    let qp7 = blocks(b"\x01ds2", 1536, &heads(7));
+    let mut segments = [0xA5; 5];
+    assert_eq!(told(ds2::demux_ds2_qp7_into(&qp7, &mut [0; 2], &mut segments)), (9, 2));
+    assert_eq!(segments, [0xA5; 5]);
+    assert_eq!(ds2::demux_ds2_qp7_into(&qp7, &mut [0; 2], &mut [0; 6]), Ok((2, 2)));
+}
+
+#[test]
+fn ten_no_such_kind() {
+    for kind in [1, 4, 7, 255, 256, 1 << 32, u64::MAX] {
+        assert_eq!(told(Reader::open(kind)), (10, kind));
+    }
+    for version in [0, 1, 4, 255] {
+        let mut demuxer = DssSpStreamDemuxer::new(version);
+        for _ in 0..2 {
+            assert_eq!(told(demuxer.push(b"\x02dss")), (10, u64::from(version)));
+            assert_eq!(told(demuxer.finish()), (10, u64::from(version)));
+            assert_eq!(told(demuxer.finish_lenient()), (10, u64::from(version)));
+        }
+    }
+}
+
+#[test]
+fn eleven_another_kind_of_ds2() {
+    for (kind, refusing) in [(3, &[2, 3][..]), (6, &[1, 3]), (7, &[1, 2]), (255, &[1, 3])] {
+        let file = blocks(b"\x01ds2", 1536, &[header(0x0F, 3, 0, 9), header(0x0F, 3, 1, kind)]);
+        for &call in refusing {
+            assert_eq!(whole(&file)[call], (11, u64::from(kind)));
+        }
+        let mut demuxer = Ds2QpStreamDemuxer::new();
+        demuxer.push(&file).unwrap();
+        assert_eq!(told(demuxer.finish()), if kind == 3 { (11, 3) } else { (0, 0) });
+    }
+}
+
+#[test]
+fn twelve_no_such_part() {
+    let file = blocks(b"\x01ds2", 1536, &[header(0x0F, 3, 9, 6); 2]);
+    let past = [(957, 56, 56), (1012, 1, 56), (usize::MAX, 2, 56)];
+    for (place, size, room) in [(0, 0, 56), (0, 57, 99), (480, 56, 55), (0, 1, 0)].into_iter().chain(past) {
+        let place = StreamPlace(place);
+        assert_eq!(unwritten(|scratch, _, _, _| frames::fetch(&file, place, size, &mut scratch[..room]).map(|_| ())), (12, 0));
+        assert_eq!(told(frames::show(&file, place, size, &[0; 99][..room])), (12, 0));
+    }
+    assert_eq!(frames::fetch(&file, StreamPlace(956), 56, &mut [0; FRAME]).map(<[u8]>::len), Ok(56));
+    assert_eq!((told(places::payload(&file, 2)), told(places::payload(&file, usize::MAX))), ((12, 0), (12, 0)));
+    assert_eq!(told(places::payload(&blocks(b"\x03dss", 1536, &[]), 0)), (12, 0));
+    assert_eq!(places::payload(&file, 1), Ok(&file[2054..]));
+}
+
+#[test]
+fn thirteen_and_fourteen_the_strict_end() {
+    let heads = [header(0x8F, 2, 20, 0), header(0x0F, 3, 4, 0)];
+    for (kind, start, magic, owed) in [(0, 1536, b"\x01ds2", 8), (3, 1536, b"\x03dss", 20), (2, 1024, b"\x02dss", 20)] {
+        let file = blocks(magic, start, &heads);
+        for (after, refusal) in [(513, (13, 1)), (1023, (13, 511)), (512, (14, owed)), (7, (13, 7))] {
+            let mut reader = fed(kind, &file[..start + after]);
+            assert_eq!(unmoved(&mut reader, |reader, _, _| reader.strict_end().map(|()| 0)), refusal);
+            assert_eq!(reader.owed(), if after >= 512 { owed as usize } else { 0 });
+        }
+    }
+}
+
+#[test]
+fn every_refusal_has_a_sentence_of_its_own() {
+    let sentences: BTreeSet<String> = (1..=15).map(|number| Refusal { number, beside: 0 }.to_string()).collect();
+    assert_eq!(sentences.len(), 15);
+    for number in [2, 3, 4, 5, 7, 8, 9, 10, 11, 13, 14] {
+        let error: Box<dyn std::error::Error> = Box::new(Refusal { number, beside: 98_765 });
+        assert!(error.to_string().contains("98765"), "{number}");
+    }
+}
