@@ -99,7 +99,7 @@ def compare(where, expected, found):
         if line not in expected:
             say(where, "no such declaration", line)
     if sorted(expected) == sorted(found) and expected != found:
-        say(where, "the order of the exports", "another order")
+        say(where, "this order: " + " ".join(map(str, expected)), "another")
 
 
 def check_c(header):
@@ -140,6 +140,9 @@ def check_rust(source):
     outside = re.search(r'extern "C" \{(.*?)\n\}', source, re.S).group(1)
     found = [squeeze(line).replace("( ", "(").replace(", )", ")") for line in re.findall(r"fn klov_\w+\(.*?;", outside, re.S)]
     compare("Rust", expected, found)
+    for name in ("Answer", "Tallied", "Opened"):
+        inside = re.search(r"#\[repr\(C\)\]\n(?:#\[.*\]\n)?(?:pub\(crate\) )?struct " + name + r" \{(.*?)\n\}", source, re.S).group(1)
+        compare("Rust " + name, fields(RATTLE, name), re.findall(r"(\w+): (\w+),", inside))
 
 
 def check_archive(archive):
@@ -155,7 +158,8 @@ def check_compiled(path):
     size, align, _ = layout("crates/reader/src/lib.rt", "Reader")
     lines.append(f'_Static_assert(sizeof(klov_reader) == {size} && _Alignof(klov_reader) == {align}, "reader");')
     lines.append(f'_Static_assert(offsetof(klov_opened, reader) == {layout(RATTLE, "Answer")[0]}, "opened");')
-    done = subprocess.run(["cc", "-std=c11", "-Wall", "-Wextra", "-Werror", "-I.", "-fsyntax-only", "-xc", "-"], input="\n".join(lines), capture_output=True, text=True)
+    command = ["cc", "-std=c11", "-Wall", "-Wextra", "-Werror", "-I.", "-fsyntax-only", "-xc", "-"]
+    done = subprocess.run(command, input="\n".join(lines), capture_output=True, text=True)
     if done.returncode:
         say("compiled header", "its sizes", done.stderr.strip())
 

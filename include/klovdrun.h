@@ -100,8 +100,9 @@ uint8_t klov_is_ds2_audio_block_header(const uint8_t *header, size_t header_len)
 /* A block's payload, KLOV_PAYLOAD bytes of the file itself. first: the file place where they begin. Refusals 1, 2, 3, 12. */
 klov_answer klov_payload(const uint8_t *file, size_t file_len, size_t block);
 
-/* All packets of an SP file, KLOV_PACKET bytes each, and for each how many bytes of its read came from the file: 42 or 40 if it is whole,
- * else fewer. first: packets. Room is the smaller of out_len / 42 and counts_len. Refusals 1, 2, 3, for DS2 11, then 8. */
+/* All packets of an SP file, KLOV_PACKET bytes each, and for each how many bytes of its read came from the file. A read has 42 bytes, or 40
+ * if it is swapped, and a packet with fewer is short; which reads are swapped the block headers say, so that a count of 40 alone does
+ * not tell. first: packets. Room is the smaller of out_len / 42 and counts_len. Refusals 1, 2, 3, for DS2 11, then 8. */
 klov_answer klov_demux_dss(const uint8_t *file, size_t file_len, uint8_t *out, size_t out_len, uint8_t *counts, size_t counts_len);
 klov_answer klov_demux_ds2_sp(const uint8_t *file, size_t file_len, uint8_t *out, size_t out_len, uint8_t *counts, size_t counts_len);
 

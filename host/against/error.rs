@@ -3,6 +3,7 @@
 use std::path::PathBuf;
 
 #[derive(Debug)]
+#[allow(dead_code)] // the original makes them with a path, which nobody reads here
 pub enum DecodeError {
     NotDss(PathBuf),
     NotDs2(PathBuf),

@@ -1,5 +1,5 @@
 // dss-codec's demux module beside this crate: both are given the same recordings, and every result of the calls that both have is
-// compared wherever the format's description says that they agree. It rests on the module's own sources, reached through build.sh.
+// compared wherever the format's description says that they agree. It rests on the module's own sources, reached by links that host/build makes.
 mod common;
 #[allow(dead_code)]
 #[path = "original/demux/mod.rs"]
