@@ -1,20 +1,21 @@
-"""header.py HEADER RUST [ARCHIVE]: include/klovdrun.h and the declarations of the Rust crate say what the exports of crates/klovdrun say.
+"""header.py HEADER FOLDER [ARCHIVE]: include/klovdrun.h and the Rust crate whose sources are in FOLDER say what the exports of
+crates/klovdrun say.
 
 Reads the exports' signatures and the structs from the Rattle sources, writes what C and Rust must say of them, and compares: names, order,
-types, sizes, constants, and the functions that the archive has. Rests on nothing but the sources' own layout, which `rt fmt` keeps.
+types, sizes, constants, and the functions that the archive has. Rests on the sources' own layout, which `rt fmt` keeps, and on the
+programs that the environment names as CC and NM.
 """
+import os
 import re
 import subprocess
 import sys
 
 SCALARS = {"u8": ("uint8_t", 1), "u32": ("uint32_t", 4), "u64": ("uint64_t", 8), "usize": ("size_t", 8)}
 RATTLE = "crates/klovdrun/src/lib.rt"
-CONSTANTS = {
-    "KLOV_LIMIT": ("crates/blocks/src/lib.rt", "LIMIT"),
-    "KLOV_PACKET": ("crates/packets/src/lib.rt", "PACKET"),
-    "KLOV_FRAME": ("crates/frames/src/lib.rt", "FRAME"),
-    "KLOV_PAYLOAD": ("crates/blocks/src/lib.rt", "PAYLOAD"),
-}
+CONSTANTS = {"LIMIT": "blocks", "PACKET": "packets", "FRAME": "frames", "PAYLOAD": "blocks", "BLOCK": "blocks", "HOLD": "hold"}
+IN_HEADER = ("LIMIT", "PACKET", "FRAME", "PAYLOAD")
+IN_RUST = ("LIMIT", "PACKET", "FRAME", "PAYLOAD", "BLOCK")
+BESIDE = {2: "LIMIT", 7: "HOLD"}  # refusals whose number beside is a constant
 wrong = []
 
 
@@ -108,31 +109,41 @@ def check_c(header):
         inside = ", ".join(word for one, kind in parameters for word in c_parameters(one, kind))
         expected.append(f"{c_type(result)} {name}({inside});")
     bare = re.sub(r"/\*.*?\*/", "", header, flags=re.S)
-    compare("header", expected, [squeeze(line) for line in re.findall(r"^\w[\w ]*\bklov_\w+\([^;]*\);", bare, re.M)])
+    compare("header", expected, [squeeze(line) for line in re.findall(r"^\w[\w *]*\bklov_\w+\([^;]*\);", bare, re.M)])
     for name in ("Answer", "Tallied", "Opened"):
         expected = [f"{c_type(kind)} {field};" for field, kind in fields(RATTLE, name)]
         inside = re.search(r"typedef struct \{([^}]*)\} klov_" + name.lower() + ";", bare).group(1)
         compare("klov_" + name.lower(), expected, [squeeze(line) for line in inside.strip().splitlines()])
     size, align, _ = layout("crates/reader/src/lib.rt", "Reader")
-    check_constant(header, "KLOV_READER_SIZE", size)
-    check_constant(header, "KLOV_READER_ALIGN", align)
-    for name, (path, word) in CONSTANTS.items():
-        value = re.search(r"pub const " + word + r": usize = ([\w]+);", text(path)).group(1)
-        check_constant(header, name, int(value.replace("_", ""), 0))
+    check_constant(header, r"#define KLOV_READER_SIZE (\w+)u", size)
+    check_constant(header, r"#define KLOV_READER_ALIGN (\w+)u", align)
+    for name in IN_HEADER:
+        check_constant(header, rf"#define KLOV_{name} (\w+)u", constant(name))
     if layout(RATTLE, "Opened")[2][1] != ("reader", layout(RATTLE, "Answer")[0]):
         say("klov_opened", "the reader right after the answer", layout(RATTLE, "Opened")[2])
     for number in range(1, 15):
-        if not re.search(rf"^ \* +{number}  \S", header, re.M):
+        line = re.search(rf"^ \* +{number}  \S.*$", header, re.M)
+        if not line:
             say("header", f"a line for refusal {number}", "none")
+        elif number in BESIDE and not line.group(0).endswith(f" {constant(BESIDE[number])}"):
+            say("header", f"refusal {number} with {constant(BESIDE[number])}", line.group(0))
 
 
-def check_constant(header, name, value):
-    found = re.search(rf"^#define {name} (\d+)u$", header, re.M)
-    if not found or int(found.group(1)) != value:
-        say(name, value, found and found.group(1))
+def constant(name):
+    found = re.search(rf"pub const {name}: usize = (\w+);", text(f"crates/{CONSTANTS[name]}/src/lib.rt"))
+    return int(found.group(1).replace("_", ""), 0)
 
 
-def check_rust(source):
+def check_constant(source, pattern, value):
+    found = re.search(f"^{pattern}$", source, re.M)
+    if not found or int(found.group(1).replace("_", "")) != value:
+        say(pattern, value, found and found.group(1))
+
+
+def check_rust(source, root):
+    check_constant(source, r"const READER_SIZE: usize = (\w+);", layout("crates/reader/src/lib.rt", "Reader")[0])
+    for name in IN_RUST:
+        check_constant(root, rf"pub const {name}: usize = (\w+);", constant(name))
     expected = []
     for name, parameters, result in exports():
         inside = ", ".join(word for one, kind in parameters for word in rust_parameters(one, kind))
@@ -146,7 +157,7 @@ def check_rust(source):
 
 
 def check_archive(archive):
-    listed = subprocess.run(["nm", archive], capture_output=True, text=True, check=True).stdout
+    listed = subprocess.run([os.environ.get("NM", "nm"), archive], capture_output=True, text=True, check=True).stdout
     compare("archive", sorted(name for name, _, _ in exports()), sorted(re.findall(r" T (klov_\w+)$", listed, re.M)))
 
 
@@ -158,7 +169,7 @@ def check_compiled(path):
     size, align, _ = layout("crates/reader/src/lib.rt", "Reader")
     lines.append(f'_Static_assert(sizeof(klov_reader) == {size} && _Alignof(klov_reader) == {align}, "reader");')
     lines.append(f'_Static_assert(offsetof(klov_opened, reader) == {layout(RATTLE, "Answer")[0]}, "opened");')
-    command = ["cc", "-std=c11", "-Wall", "-Wextra", "-Werror", "-I.", "-fsyntax-only", "-xc", "-"]
+    command = [os.environ.get("CC", "cc"), "-std=c11", "-Wall", "-Wextra", "-Werror", "-I.", "-fsyntax-only", "-xc", "-"]
     done = subprocess.run(command, input="\n".join(lines), capture_output=True, text=True)
     if done.returncode:
         say("compiled header", "its sizes", done.stderr.strip())
@@ -166,7 +177,7 @@ def check_compiled(path):
 
 def main():
     check_c(text(sys.argv[1]))
-    check_rust(text(sys.argv[2]))
+    check_rust(text(sys.argv[2] + "/raw.rs"), text(sys.argv[2] + "/lib.rs"))
     check_compiled(sys.argv[1])
     if len(sys.argv) > 3:
         check_archive(sys.argv[3])

@@ -133,8 +133,8 @@ klov_opened klov_open(uint64_t kind);
 /* A reader's calls, which advance it where it stands. first: packets handed out, as in the whole readings; second: frames owed afterwards,
  * in refused answers too, so that an empty piece asks it in any state.
  *
- * A piece is taken whole or refused: 6, 2, 7, 8. */
-klov_answer klov_piece(klov_reader *reader, const uint8_t *piece, size_t piece_len, uint8_t *out, size_t out_len, uint8_t *counts, size_t counts_len);
+ * A piece, src, is taken whole or refused: 6, 2, 7, 8. */
+klov_answer klov_piece(klov_reader *reader, const uint8_t *src, size_t src_len, uint8_t *out, size_t out_len, uint8_t *counts, size_t counts_len);
 
 /* The strict end succeeds with no packets, and has then ended the reader, or refuses: 6, 3, 13, 14. On no input it succeeds. */
 klov_answer klov_strict_end(klov_reader *reader);

@@ -326,11 +326,9 @@ static enum outcome whole_sp(struct intake *it, const struct bytes *file, const 
     struct bytes counts = {0};
     make_room(&out, t->handed, KLOV_PACKET);
     make_room(&counts, t->handed, 1);
-    it->sizes.dss = t->kind == DSS_SP;
     it->sizes.start = t->start;
     sizes_take(&it->sizes, file->at, file->len);
-    klov_answer a = it->sizes.dss ? klov_demux_dss(file->at, file->len, out.at, out.room, counts.at, counts.room)
-                                  : klov_demux_ds2_sp(file->at, file->len, out.at, out.room, counts.at, counts.room);
+    klov_answer a = klov_demux_ds2_sp(file->at, file->len, out.at, out.room, counts.at, counts.room);
     if (a.refusal == 0)
         put_packets(it, out.at, counts.at, a.first);
     it->owed = it->short_count;
@@ -413,7 +411,9 @@ static enum outcome whole_kind(struct intake *it, const struct bytes *file)
     if (t.refusal != 0)
         return refused(it, t.refusal, t.beside);
     it->cut = (file->len - t.start) % BLOCK;
-    if (t.kind == DSS_SP || t.kind == DS2_SP)
+    if (t.kind == DSS_SP) /* a reader takes every DSS recording, and gives no 7 */
+        fail("%s: it should have been read in pieces", it->recording);
+    if (t.kind == DS2_SP)
         return whole_sp(it, file, &t);
     return t.kind == DS2_QP ? whole_qp(it, file) : whole_qp7(it, file, &t);
 }

@@ -3,7 +3,7 @@
 //
 // Usage: intake RECORDING PACKETS [PIECE]. It exits with 0 (complete), 1 (incomplete), 2 (refused, or no way to read or write).
 use klovdrun::demux::ds2::{self, detect_ds2_format_type};
-use klovdrun::demux::{dss, AudioFormat};
+use klovdrun::demux::AudioFormat;
 use klovdrun::{frames, tally, FilePlace, Packets, ReadSizes, Reader, Refusal, BLOCK, FRAME, LIMIT, PACKET};
 use std::ffi::OsString;
 use std::fmt;
@@ -233,10 +233,11 @@ fn whole(recording: &Path, packets: &Path) -> Outcome<Report> {
     let told = tally(&file)?;
     let cut = (file.len() - told.start.0) % BLOCK;
     match told.kind {
-        AudioFormat::DssSp => whole_sp(&file, &dss::demux_dss_counted(&file)?, ReadSizes::dss(told.start), cut, output),
         AudioFormat::Ds2Sp => whole_sp(&file, &ds2::demux_ds2_sp_counted(&file)?, ReadSizes::ds2(told.start), cut, output),
         AudioFormat::Ds2Qp => whole_qp(&file, cut, output),
-        _ => whole_qp7(&file, cut, output),
+        AudioFormat::Ds2Qp7 => whole_qp7(&file, cut, output),
+        // A reader takes every DSS recording, and gives no 7.
+        _ => Err(Stop::Fault(format!("{}: it should have been read in pieces", recording.display()))),
     }
 }
 

@@ -1,8 +1,8 @@
 //! Klovdrun for Rust hosts: a demuxer for dictation recordings, DSS and DS2, over the archive `libklovdrun.a`.
 //! It rests on `include/klovdrun.h`; all that crosses the boundary is in the private module `raw`.
 //!
-//! [`demux`] has the names and signatures of dss-codec's module of that name, so that a host can change the one for the other. What
-//! is added stands beside it: [`Packets`] with the count of file bytes of each packet, [`Reader`] for pieces without an allocation,
+//! The calls of [`demux`] have the names and signatures of those in dss-codec's module of that name, so that a host can change the one
+//! for the other. What is added stands beside it: [`Packets`] with the count of file bytes of each packet, [`Reader`] for pieces without an allocation,
 //! [`places`] and [`frames`] for bytes that stay in the file, [`tally`](tally()) for a file in numbers, and [`ReadSizes`], which
 //! tells short packets.
 //! Every call answers, or refuses by an [`error::Refusal`]; a refused call changes nothing.

@@ -4,7 +4,7 @@
 #![allow(unsafe_code)]
 
 use crate::error::{Refusal, Result};
-use std::mem::{align_of, size_of};
+use std::mem::{align_of, size_of, MaybeUninit};
 
 const READER_SIZE: usize = 12928;
 
@@ -37,7 +37,8 @@ pub(crate) struct Tallied {
 #[repr(C)]
 #[derive(Clone)]
 pub(crate) struct Reader {
-    opaque: [u64; READER_SIZE / 8],
+    // Its last bytes may never have been written: they lie past its last field.
+    opaque: [MaybeUninit<u64>; READER_SIZE / 8],
 }
 
 /// `klov_opened`.
@@ -97,8 +98,8 @@ extern "C" {
     fn klov_open(kind: u64) -> Opened;
     fn klov_piece(
         reader: *mut Reader,
-        piece: *const u8,
-        piece_len: usize,
+        src: *const u8,
+        src_len: usize,
         out: *mut u8,
         out_len: usize,
         counts: *mut u8,

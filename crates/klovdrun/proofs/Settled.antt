@@ -1,11 +1,14 @@
 -- Two outcomes of an export that its contract allows for the same arguments are equal: its numbers, and all that was lent to it. The
--- contract is the one in the source, as the check reads it. Assumes nothing.
+-- contract is the one in the source, as the check reads it; of the three that advance a reader, which the check's own walk does not
+-- cover, it is what their contracts cite. Assumes nothing.
 use Prim.Native.Nat.{ℕ}
 use mathlib.Core.Path.{_≡_, sym, ap, _∙_}
 use mathlib.Core.List.{List}
 use denote.Ref.{now}
 use Rattle.tables.specs.Settled.{SettledResult, SettledAs}
 use Rattle.sp.specs.declared.Demuxed.{Demuxed}
+use Rattle.refusals.specs.Said.{Said}
+use Rattle.sp.specs.Readings.{Reading}
 use Rattle.sp.specs.Outcome.{demuxedSays}
 use Rattle.sp.proofs.Outcome.{only-outcome}
 use Rattle.qp.specs.Outcome.{demuxedSays as qpSays}
@@ -21,7 +24,7 @@ use Rattle.reader.specs.History.{PieceCall, StrictCall, LenientCall, OwedCall}
 use Rattle.reader.proofs.Total.{only-opened, reached-piece, only-piece, reached-strict, only-strict, reached-lenient, only-lenient, only-owed}
 use Rattle.klovdrun.specs.declared.Answer.{Answer}
 use Rattle.klovdrun.specs.Numbers.{oneNumber, qpNumbers, qp7Numbers, standNumbers, owingNumbers}
-use Rattle.klovdrun.specs.Wrapped.{Advances, stepTo}
+use Rattle.klovdrun.specs.Wrapped.{SpCarries, Advances, stepTo}
 use Rattle.klovdrun.proofs.klov_detect_format.Kinds as format
 use Rattle.klovdrun.proofs.klov_detect_format.Reads as format-reads
 use Rattle.klovdrun.proofs.klov_detect_ds2_audio_start.Kinds as start
@@ -87,17 +90,18 @@ Two = Answer × List ℕ × List ℕ
 abbrev One : Type 0
 One = Answer × List ℕ
 
-pub klov-demux-dss-settled : SettledAs 3 dss.ps dss.r (λ κs. Two) (λ κs x s. (x, now (s .1 .0), now (s .1 .1 .0))) dss-reads.Post
-klov-demux-dss-settled κs a x y s t p q =
+sp-settled : {reading : Said Reading} {out out₁ out₂ counts counts₁ counts₂ : List ℕ} {r r′ : Answer} → SpCarries reading out out₁ counts counts₁ r
+    → SpCarries reading out out₂ counts counts₂ r′ → _≡_ {A = Two} (r, out₁, counts₁) (r′, out₂, counts₂)
+sp-settled p q =
     let e = only-outcome (p .comes) (q .comes) in
     let n = carried (λ answer. oneNumber (demuxedSays answer)) (λ i. e i .0) (p .numbers-are) (q .numbers-are) in
     (λ i. (n i, e i .1, e i .2))
 
+pub klov-demux-dss-settled : SettledAs 3 dss.ps dss.r (λ κs. Two) (λ κs x s. (x, now (s .1 .0), now (s .1 .1 .0))) dss-reads.Post
+klov-demux-dss-settled κs a x y s t p q = sp-settled p q
+
 pub klov-demux-ds2-sp-settled : SettledAs 3 sp.ps sp.r (λ κs. Two) (λ κs x s. (x, now (s .1 .0), now (s .1 .1 .0))) sp-reads.Post
-klov-demux-ds2-sp-settled κs a x y s t p q =
-    let e = only-outcome (p .comes) (q .comes) in
-    let n = carried (λ answer. oneNumber (demuxedSays answer)) (λ i. e i .0) (p .numbers-are) (q .numbers-are) in
-    (λ i. (n i, e i .1, e i .2))
+klov-demux-ds2-sp-settled κs a x y s t p q = sp-settled p q
 
 pub klov-demux-ds2-qp-settled : SettledAs 2 qp.ps qp.r (λ κs. One) (λ κs x s. (x, now (s .1 .0))) qp-reads.Post
 klov-demux-ds2-qp-settled κs a x y s t p q =

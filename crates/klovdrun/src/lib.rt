@@ -192,14 +192,14 @@ pub extern "C" fn klov_open(kind: u64) -> Opened
 #[no_mangle]
 pub extern "C" fn klov_piece(
     reader: &mut Reader,
-    piece: &[u8],
+    src: &[u8],
     out: &mut [u8],
     counts: &mut [u8],
 ) -> Answer
     requires { ⌜ Reached (now reader) ⌝ }
-    ensures { λ r. ⌜ Advances (PieceCall (now (reader .entry)) (now (piece .entry)) (now (out .entry)) (now (out .exit)) (now (counts .entry)) (now (counts .exit))) (now (reader .exit)) r ⌝ }
+    ensures { λ r. ⌜ Advances (PieceCall (now (reader .entry)) (now (src .entry)) (now (out .entry)) (now (out .exit)) (now (counts .entry)) (now (counts .exit))) (now (reader .exit)) r ⌝ }
 {
-    let step = (*reader).piece(piece, out, counts);
+    let step = (*reader).piece(src, out, counts);
     *reader = step.reader;
     numbers::of_step(step)
 }

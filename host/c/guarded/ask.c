@@ -114,8 +114,8 @@ static void perform_whole(const struct question *q, struct slice b, struct slice
     memcpy(numbers, &a, sizeof a);
 }
 
-/* Where a structure is answered, its place is lent too, unseen: on x86-64 it is the call's first argument. So it can stand at an
- * edge. */
+/* Where a structure is answered, its place is lent too, unseen: by x86-64's System V convention it is the call's first argument. So
+ * it can stand at an edge. C itself says nothing of such a call; this file is for that convention alone. */
 static klov_answer open_in_place(klov_opened *place, uint64_t kind)
 {
     klov_opened *(*opening)(klov_opened *, uint64_t) = (klov_opened * (*)(klov_opened *, uint64_t))(void (*)(void))klov_open;

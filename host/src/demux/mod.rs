@@ -1,4 +1,4 @@
-//! dss-codec's demux module, over the archive: the same names and signatures, refusals instead of its errors and panics.
+//! The calls of dss-codec's demux module, over the archive: the same names and signatures, refusals instead of its errors, and no panics.
 //! It rests on the archive's detection; Grundig recordings are told, and not demuxed.
 pub mod ds2;
 pub mod dss;
