@@ -1,6 +1,6 @@
-"""listing.py PROGRAM LIST: tries the program `list` on the files of LIST, crates/vectors/stdin, and through slow pipes.
+"""listing.py LIST WORD ..: tries the program `list`, which the words run, on the files of LIST, crates/vectors/stdin, and through slow pipes.
 
-Each file of the list is made anew and given to PROGRAM, and the line is held to the tally that the list has for it. Some go through a
+Each file of the list is made anew and given to it, and the line is held to the tally that the list has for it. Some go through a
 pipe that delivers them in small parts. Then what no list holds: no input, input of a byte too many and of millions, and input that
 cannot be read. Prints how many files there were, and every line that is wrong.
 """
@@ -43,13 +43,13 @@ def cases(path: str):
         yield numbers[0], content, f"refused 2 {MOST}" if len(content) > MOST else line
 
 
-def listed(program: str, file: bytes) -> str:
-    return subprocess.run([program], input=file, stdout=subprocess.PIPE, check=True).stdout.decode()
+def listed(program: list, file: bytes) -> str:
+    return subprocess.run(program, input=file, stdout=subprocess.PIPE, check=True).stdout.decode()
 
 
-def listed_slowly(program: str, file: bytes, part: int) -> str:
+def listed_slowly(program: list, file: bytes, part: int) -> str:
     """The same through a pipe that delivers so many bytes at a time."""
-    with subprocess.Popen([program], stdin=subprocess.PIPE, stdout=subprocess.PIPE) as process:
+    with subprocess.Popen(program, stdin=subprocess.PIPE, stdout=subprocess.PIPE) as process:
         try:
             for at in range(0, len(file), part):
                 os.write(process.stdin.fileno(), file[at : at + part])
@@ -61,7 +61,7 @@ def listed_slowly(program: str, file: bytes, part: int) -> str:
 
 
 def main() -> int:
-    program, path = sys.argv[1:]
+    path, program = sys.argv[1], sys.argv[2:]
     tried, slow, wrong = 0, 0, []
 
     def expect(what: str, got: str, line: str) -> None:
@@ -79,7 +79,7 @@ def main() -> int:
     expect("one byte too many, slowly", listed_slowly(program, b"\2dss" + bytes(MOST - 3), 4099), f"refused 2 {MOST}")
     expect("far too long", listed(program, b"\2dss" + bytes(64 * MOST)), f"refused 2 {MOST}")
     folder = os.open(".", os.O_RDONLY)
-    unread = subprocess.run([program], stdin=folder, stdout=subprocess.PIPE, stderr=subprocess.PIPE, check=False)
+    unread = subprocess.run(program, stdin=folder, stdout=subprocess.PIPE, stderr=subprocess.PIPE, check=False)
     if unread.stdout or not unread.stderr:
         wrong.append(f"a folder, which cannot be read: got {unread.stdout!r} and {unread.stderr!r}")
     for line in wrong:
