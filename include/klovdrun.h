@@ -1,7 +1,8 @@
 /* klovdrun: a demuxer for dictation recordings, DSS and DS2, over the archive libklovdrun.a (x86-64, System V).
  *
  * A slice is a pointer and a length in elements. No call keeps a pointer, allocates, or touches anything but what is lent to it; a
- * slice that is not const is written only as far as its call says, and a refused call changes no lent byte and no reader.
+ * slice that is not const is written only as far as its call says, and a refused call changes no lent byte and no reader. A reader's calls
+ * take up to some 27 KiB of stack, the others under 1 KiB.
  *
  * Forbidden, and not looked for:
  * - a null pointer, even with length 0: point at anything, or one past the end of an array;

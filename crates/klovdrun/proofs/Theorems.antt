@@ -1,11 +1,10 @@
 -- The theorems about the boundary: an answer's first number tells whether the call answered or refused, and a refused call has changed
 -- nothing. Assumes nothing.
-use Prim.Native.Nat.{ℕ, _/_, _≤_, _<_}
+use Prim.Native.Nat.{ℕ, _/_, _<_}
 use mathlib.Core.Path.{_≡_, refl, ap, _∙_}
 use mathlib.Core.List.{List}
 use native.Mathlib.Omega.{arith}
 use lib.ListN.{length}
-use Rattle.refusals.specs.declared.Refusal.{Refusal}
 use Rattle.refusals.specs.Said.{Said, answers, refusal, Numbered}
 use Rattle.detect.specs.Payload.{payloadPlace}
 use Rattle.sp.specs.Readings.{Reading}
@@ -31,15 +30,8 @@ use Rattle.klovdrun.specs.declared.Answer.{Answer}
 use Rattle.klovdrun.specs.declared.Opened.{Opened}
 use Rattle.klovdrun.specs.declared.Tallied.{Tallied}
 use Rattle.klovdrun.specs.Numbers.{four, numbersOr, oneNumber, qpNumbers, qp7Numbers, standNumbers, owingNumbers, tallyNumbers}
-use Rattle.klovdrun.specs.Wrapped.{SpCarries, QpCarries, Qp7Carries, FillCarries, OpenCarries, Advances}
+use Rattle.klovdrun.specs.Wrapped.{SpCarries, QpCarries, Qp7Carries, FillCarries, OpenCarries, Advances, Tells}
 use Rattle.klovdrun.proofs.Refusing.{payload-numbered, packets-numbered, segments-numbered, records-numbered, fetch-numbered, tally-numbered, open-numbered, piece-numbered, strict-numbered, lenient-numbered}
-
--- r tells what was said: with refusal 0 the call answered; with another it refused by that number, which is at most 14, with that number
--- beside it, and first is 0
-pub record Tells {A : Type 0} (said : Said A) (r : Answer) : Type 0 where
-  pub zero : r .refusal ≡ 0 → (a : A) × (said ≡ answers a)
-  pub above : 0 < r .refusal → (why : Refusal) × (said ≡ refusal why) × (r .refusal ≡ why .number) × (r .beside ≡ why .beside) × (r .first ≡ 0)
-  pub most : r .refusal ≤ 14
 
 tells : {A : Type 0} (first second : A → ℕ) (other : ℕ) (said : Said A) → Numbered 14 said → {r : Answer} → r ≡ numbersOr first second other said
     → Tells said r

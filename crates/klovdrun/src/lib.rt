@@ -1,4 +1,4 @@
-// For the host: a reader that is advanced where it stands, and every public call under a C name. Nothing is decided here: an export calls
+// For the host: a reader that is advanced where it stands, and the public calls under C names. Nothing is decided here: an export calls
 // one of the crates below and hands its numbers over. Rests on all of them. include/klovdrun.h says the same in C.
 use blocks::FilePlace;
 use blocks::StreamPlace;
