@@ -22,32 +22,37 @@ use Rattle.packets.proofs.Packets.{read-most}
 use Rattle.packets.proofs.Longer.{Agree, same-packet, same-carry}
 use Rattle.packets.specs.Gathered.{bytesOf, Shifted, Blended, Window}
 
--- 40 bytes that stand 3 on, taken 4 on at even places and as they stand at odd ones, are a swapped packet's
-pub blend : (c : ℕ → ℕ) (v x : List ℕ) → Shifted c v → length x ≡ 48
-    → ((k : ℕ) → k < 48 → getD x k 0 ≡ cond (eqb (k % 2) 0) (getD v (k + 4) 0) (getD v k 0)) → Blended c x
-blend c v x shifted long value =
-    record {
-      long = long;
-      even = λ k h e.
-          let there : k + 4 ≡ 3 + (k + 1) = omega arith in
-          value k (omega arith) ∙ simp (eq-eqb (k % 2) 0 e) (ap (λ (j : ℕ). getD v j 0) there ∙ shifted .at (k + 1) (omega arith));
-      odd = λ k h three e.
-          let there : k ≡ 3 + (k - 3) = omega arith in
-          value k (omega arith) ∙ simp (ne-eqb (k % 2) 0 e) (ap (λ (j : ℕ). getD v j 0) there ∙ shifted .at (k - 3) (omega arith));
-    }
-
--- with the carried byte and the 0 put in, they are the packet's
-pub blended-is : (c : ℕ → ℕ) (carry : ℕ) (x : List ℕ) → Blended c x
-    → (k : ℕ) → k < 42 → cond (eqb k 40) 0 (cond (eqb k 1) carry (getD x k 0)) ≡ packetByte true carry c k
+-- the carried byte and 40 bytes that stand 3 on, taken 4 on at even places and as they stand at odd ones, are a swapped packet
+pub blend : (carry : ℕ) (c : ℕ → ℕ) (v x : List ℕ) → Shifted carry c v → length x ≡ 48
+    → ((k : ℕ) → k < 48 → getD x k 0 ≡ cond (eqb (k % 2) 0) (getD v (k + 4) 0) (getD v k 0)) → Blended carry c x
 unfolding packetByte
-blended-is c carry x b k h =
-    by-equal k 40 (λ e. simp (eq-eqb k 40 e))
-    (λ forty.
-    by-equal k 1 (λ e. simp (ne-eqb k 40 forty, eq-eqb k 1 e))
-    (λ one.
-    by-equal (k % 2) 0
-    (λ e. simp (ne-eqb k 40 forty, ne-eqb k 1 one, eq-eqb (k % 2) 0 e) (b .even k (omega arith) e))
-    (λ e. simp (ne-eqb k 40 forty, ne-eqb k 1 one, ne-eqb (k % 2) 0 e) (b .odd k h (omega arith) e))))
+blend carry c v x shifted long value = record { long = long; packet = in-place }
+  where
+    in-place : (k : ℕ) → k < 42 → getD x k 0 ≡ packetByte true carry c k
+    in-place k h =
+        by-equal k 40
+        (λ e.
+        let there : k + 4 ≡ 44 = omega arith in
+        let even : k % 2 ≡ 0 = omega arith in
+        value k (omega arith) ∙ simp (eq-eqb (k % 2) 0 even, eq-eqb k 40 e) (ap (λ (j : ℕ). getD v j 0) there ∙ shifted .zero))
+        (λ forty.
+        by-equal k 1
+        (λ e.
+        let odd : k % 2 ≡ 0 → ⊥ = λ z. omega arith in
+        value k (omega arith)
+        ∙ simp (ne-eqb (k % 2) 0 odd, ne-eqb k 40 forty, eq-eqb k 1 e) (ap (λ (j : ℕ). getD v j 0) e ∙ shifted .carried))
+        (λ one.
+        by-equal (k % 2) 0
+        (λ e.
+        let there : k + 4 ≡ 3 + (k + 1) = omega arith in
+        value k (omega arith)
+        ∙ simp (eq-eqb (k % 2) 0 e, ne-eqb k 40 forty, ne-eqb k 1 one)
+        (ap (λ (j : ℕ). getD v j 0) there ∙ shifted .at (k + 1) (omega arith)))
+        (λ e.
+        let there : k ≡ 3 + (k - 3) = omega arith in
+        value k (omega arith)
+        ∙ simp (ne-eqb (k % 2) 0 e, ne-eqb k 40 forty, ne-eqb k 1 one)
+        (ap (λ (j : ℕ). getD v j 0) there ∙ shifted .at (k - 3) (omega arith)))))
 
 -- an unswapped read takes no account of the carry
 pub plain-is : (carry : ℕ) (c : ℕ → ℕ) (k : ℕ) → cond (eqb k 40) 0 (c k) ≡ packetByte false carry c k

@@ -115,13 +115,14 @@ fn plain(src: &[u8], at: usize) -> [u8; 42]
     bytes
 }
 
-// The 40 bytes of a swapped read, 3 places on, so that a blend of two shifts gives the packet: 52 places, since the blend
-// looks 4 on.
-fn shifted(src: &[u8], at: usize) -> [u8; 52]
+// The 40 bytes of a swapped read, 3 places on, behind the carried byte, so that a blend of two shifts gives the packet: 52 places,
+// since the blend looks 4 on.
+fn shifted(src: &[u8], at: usize, carry: u8) -> [u8; 52]
     requires { ⌜ at + 40 ≤ length (now src) ⌝ }
-    ensures { λ r. ⌜ Shifted (from (bytesOf (now (src .entry))) at) r ⌝ }
+    ensures { λ r. ⌜ Shifted carry (from (bytesOf (now (src .entry))) at) r ⌝ }
 {
     let mut read = [0u8; 52];
+    read[1] = carry;
     let mut k = 0;
     while k < 40 {
         read[3 + k] = src[at + k];
@@ -136,12 +137,12 @@ fn either(k: usize, even: u8, odd: u8) -> u8
     if k % 2 == 0 { even } else { odd }
 }
 
-// The swapped bytes in their places; places 1, 40 and those from 42 on are idle. 48 places and not 42: whole vectors.
-fn blended(src: &[u8], at: usize) -> [u8; 48]
+// A swapped read's packet and six idle places: 48 and not 42, so that it is whole vectors.
+fn blended(src: &[u8], at: usize, carry: u8) -> [u8; 48]
     requires { ⌜ at + 40 ≤ length (now src) ⌝ }
-    ensures { λ r. ⌜ Blended (from (bytesOf (now (src .entry))) at) r ⌝ }
+    ensures { λ r. ⌜ Blended carry (from (bytesOf (now (src .entry))) at) r ⌝ }
 {
-    let read = shifted(src, at);
+    let read = shifted(src, at, carry);
     let mut blend = [0u8; 48];
     let mut k = 0;
     while k < 48 {
@@ -156,15 +157,13 @@ fn swapped(src: &[u8], at: usize, carry: u8) -> [u8; 42]
     requires { ⌜ at + 40 ≤ length (now src) ⌝ }
     ensures { λ r. ⌜ r ≡ table 42 (packetByte true carry (from (bytesOf (now (src .entry))) at)) ⌝ }
 {
-    let blend = blended(src, at);
+    let blend = blended(src, at, carry);
     let mut bytes = [0u8; 42];
     let mut k = 0;
     while k < 42 {
         bytes[k] = blend[k];
         k += 1;
     }
-    bytes[1] = carry;
-    bytes[40] = 0;
     bytes
 }
 

@@ -238,6 +238,7 @@ impl Reader {
             first: self.first,
             carry: self.carry,
         };
+        let mut hold = self.hold;
         let mut partial = self.partial;
         let mut waiting = self.waiting;
         let room = room_for(out.len(), counts.len());
@@ -259,13 +260,14 @@ impl Reader {
             a,
             taken,
             was,
-            &mut self.hold,
+            &mut hold,
             &mut partial,
             &mut waiting,
             piece,
             out,
             counts,
         );
+        self.hold = hold;
         self.partial = partial;
         self.waiting = waiting;
         self.taken = taken_with(accepted, taken, piece.len());

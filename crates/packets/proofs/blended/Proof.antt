@@ -13,11 +13,11 @@ use Rattle.packets.proofs.blended.Statement.{statement}
 use Rattle.packets.proofs.blended.Tie as tie
 
 abbrev Inv-loop : tie.InvT-loop
-Inv-loop src at read blend₀ k₀ blend k =
+Inv-loop src at carry read blend₀ k₀ blend k =
     (k ≤ 48) × ((length blend₀ ≡ 48) × Leaves blend₀ 0 k (λ j. cond (eqb (j % 2) 0) (getD read (j + 4) 0) (getD read j 0)) blend)
 
 abbrev μ-loop : tie.MeasureT-loop
-μ-loop src at read blend₀ k₀ blend k = 48 - k
+μ-loop src at carry read blend₀ k₀ blend k = 48 - k
 
 shifted-requires : tie.Need-shifted-requires Inv-loop μ-loop
 shifted-requires c κs = search needs
@@ -57,7 +57,7 @@ returns c =
     let l = c .before .loop in
     let e : l .k ≡ 48 = search needs in
     let w = leaves-to e (l .inv .1 .1) in
-    blend _ _ (l .blend) (c .before .before .shifted .ensures) (w .long ∙ l .inv .1 .0) (λ k h. leaves-at w k h)
+    blend _ _ _ (l .blend) (c .before .before .shifted .ensures) (w .long ∙ l .inv .1 .0) (λ k h. leaves-at w k h)
 
 pub blended-spec : {M : Type 1} → statement M
 blended-spec =

@@ -1,7 +1,8 @@
--- `packets::shifted` meets its contract: the bytes so far stand three places on.
+-- `packets::shifted` meets its contract: the bytes so far stand three places on, and what was there before stays.
 -- Assumes nothing.
 use Prim.Native.Nat.{_+_, _-_, _≤_, _<_}
 use mathlib.Core.Path.{_≡_, refl, _∙_}
+use native.Mathlib.Omega.{arith}
 use lib.ListN.{length, getD}
 use Rattle.tables.specs.Lent.{Leaves}
 use Rattle.tables.proofs.Lent.{leaves-none, leaves-more, leaves-to}
@@ -10,13 +11,17 @@ use Rattle.packets.proofs.shifted.Statement.{statement}
 use Rattle.packets.proofs.shifted.Tie as tie
 
 abbrev Inv-loop : tie.InvT-loop
-Inv-loop src at read₀ k₀ read k = (k ≤ 40) × ((length read₀ ≡ 52) × Leaves read₀ 3 k (λ j. getD src (at + j) 0) read)
+Inv-loop src at carry read₀ k₀ read k =
+    (k ≤ 40) × (((length read₀ ≡ 52) × ((getD read₀ 1 0 ≡ carry) × (getD read₀ 44 0 ≡ 0))) × Leaves read₀ 3 k (λ j. getD src (at + j) 0) read)
 
 abbrev μ-loop : tie.MeasureT-loop
-μ-loop src at read₀ k₀ read k = 40 - k
+μ-loop src at carry read₀ k₀ read k = 40 - k
+
+array-write-read : tie.Need-array-write-read Inv-loop μ-loop
+array-write-read c = search needs
 
 loop-holds : tie.Need-loop-holds Inv-loop μ-loop
-loop-holds c = (search needs, (refl, leaves-none _ 3 _))
+loop-holds c = (search needs, ((refl, (refl, refl)), leaves-none _ 3 _))
 
 add-read : tie.Need-add-read Inv-loop μ-loop
 add-read c = search needs
@@ -27,8 +32,8 @@ shared-slice-read-read c = search needs
 add-read-2 : tie.Need-add-read-2 Inv-loop μ-loop
 add-read-2 c = search needs
 
-array-write-read : tie.Need-array-write-read Inv-loop μ-loop
-array-write-read c = search needs
+array-write-read-2 : tie.Need-array-write-read-2 Inv-loop μ-loop
+array-write-read-2 c = search needs
 
 add-k : tie.Need-add-k Inv-loop μ-loop
 add-k c = search needs
@@ -47,7 +52,13 @@ returns c =
     let l = c .before .loop in
     let e : l .k ≡ 40 = search needs in
     let w = leaves-to e (l .inv .1 .1) in
-    record { long = w .long ∙ l .inv .1 .0; at = w .new }
+    let before = l .inv .1 .0 in
+    record {
+      long = w .long ∙ before .0;
+      carried = w .low 1 (omega arith) ∙ before .1 .0;
+      at = w .new;
+      zero = w .high 44 (omega arith) ∙ before .1 .1;
+    }
 
 pub shifted-spec : {M : Type 1} → statement M
 shifted-spec =
@@ -55,11 +66,12 @@ shifted-spec =
     (tie.spec
     Inv-loop
     μ-loop
+    array-write-read
     loop-holds
     add-read
     shared-slice-read-read
     add-read-2
-    array-write-read
+    array-write-read-2
     add-k
     loop-less
     loop-again

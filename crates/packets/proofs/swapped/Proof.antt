@@ -1,11 +1,10 @@
--- `packets::swapped` meets its contract: the blend so far is copied, and bytes 1 and 40 are then put in.
+-- `packets::swapped` meets its contract: the blend so far is copied.
 -- Assumes nothing.
 use Prim.Native.Nat.{_-_, _≤_, _<_}
 use mathlib.Core.Path.{_≡_, refl}
 use lib.ListN.{length, getD}
 use Rattle.tables.specs.Lent.{Leaves}
-use Rattle.tables.proofs.Lent.{leaves-none, leaves-next, leaves-again, leaves-as, leaves-to, leaves-table}
-use Rattle.packets.proofs.Gathered.{blended-is}
+use Rattle.tables.proofs.Lent.{leaves-none, leaves-next, leaves-as, leaves-to, leaves-table}
 use borrow.Author.Needs.{needs}
 use Rattle.packets.proofs.swapped.Statement.{statement}
 use Rattle.packets.proofs.swapped.Tie as tie
@@ -40,20 +39,12 @@ loop-again c =
     let inside : l .k < 42 = search needs in
     (search needs, (l .inv .1 .0, leaves-next _ (l .k) _ (l .bytes) _ inside refl (l .inv .1 .1)))
 
-array-write-bytes-2 : tie.Need-array-write-bytes-2 Inv-loop μ-loop
-array-write-bytes-2 c = search needs
-
-array-write-bytes-3 : tie.Need-array-write-bytes-3 Inv-loop μ-loop
-array-write-bytes-3 c = search needs
-
 returns : tie.Need-returns Inv-loop μ-loop
 returns c =
     let l = c .before .loop in
-    let b = c .before .before in
+    let blend = c .before .before .blended .ensures in
     let e : l .k ≡ 42 = search needs in
-    let w = leaves-again 1 (b .before .before .args .carry) (search needs) (search needs) (leaves-to e (l .inv .1 .1)) in
-    leaves-table 42 (l .inv .1 .0)
-    (leaves-as _ (blended-is _ _ (b .blended .result) (b .blended .ensures)) (leaves-again 40 0 (search needs) (search needs) w))
+    leaves-table 42 (l .inv .1 .0) (leaves-as _ (blend .packet) (leaves-to e (l .inv .1 .1)))
 
 pub swapped-spec : {M : Type 1} → statement M
 swapped-spec =
@@ -68,6 +59,4 @@ swapped-spec =
     add-k
     loop-less
     loop-again
-    array-write-bytes-2
-    array-write-bytes-3
     returns)

@@ -12,13 +12,13 @@ use Rattle.reader.proofs.Reader.piece.Statement.{statement}
 use Rattle.reader.proofs.Reader.piece.Tie as tie
 
 start-of-requires : tie.Need-start-of-requires
-start-of-requires c κs = reached-kind (c .before .before .before .pre)
+start-of-requires c κs = reached-kind (c .before .before .before .before .pre)
 
 room-for-requires : tie.Need-room-for-requires
 room-for-requires c κs = search needs
 
 -- the arrays' lengths, and that the piece's bytes are bytes
-arrays : (s : tie.Start) → (length (s .args .t1 .hold) ≡ 12288) × (length (s .args .t1 .partial) ≡ 512) × (length (s .args .t1 .waiting) ≡ 66)
+arrays : (s : tie.Start) → (length (s .args .self .hold) ≡ 12288) × (length (s .args .self .partial) ≡ 512) × (length (s .args .self .waiting) ≡ 66)
 arrays s = search needs
 
 bytes : (p : tie.After-shared-slice-known) → Bytes (now (p .before .args .piece))
@@ -26,8 +26,8 @@ bytes p i = omega (arith, p .shared-slice-known .given i)
 
 decide-requires : tie.Need-decide-requires
 decide-requires c κs =
-    let a = c .before .before .before .before .before in
-    let p = a .before .before .before in
+    let a = c .before .before .before .before .before .before in
+    let p = a .before .before .before .before in
     let v = p .before .pre in
     let long = arrays (p .before) in (
       (long .1, long .2, a .start-of .ensures .1, reached-small v),
@@ -39,16 +39,16 @@ abbrev roomy : tie.After-decide → tie.After-room-for
 roomy d = d .before .before .before
 
 abbrev begun : tie.After-decide → tie.After-start-of
-begun d = roomy d .before .before .before
+begun d = roomy d .before .before .before .before
 
 abbrev known : tie.After-decide → tie.After-shared-slice-known
-known d = begun d .before .before .before
+known d = begun d .before .before .before .before
 
 abbrev entry : tie.After-decide → tie.Start
 entry d = known d .before
 
 decided : (d : tie.After-decide)
-    → Decided (entry d .args .t1) (begun d .start-of .result .0) (now (entry d .args .piece)) (now (entry d .args .out))
+    → Decided (entry d .args .self) (begun d .start-of .result .0) (now (entry d .args .piece)) (now (entry d .args .out))
     (now (entry d .args .counts)) (roomy d .room-for .result) (d .decide .result .accepted) (d .decide .result .answer)
 decided d = record { room-is = roomy d .room-for .ensures; fair = d .decide .ensures .0; says = d .decide .ensures .1 }
 
