@@ -22,8 +22,8 @@ use Rattle.reader.specs.declared.Step.{Step}
 use Rattle.reader.specs.State.{Reached}
 use Rattle.reader.specs.History.{PieceCall, StrictCall, LenientCall, OwedCall}
 use Rattle.reader.proofs.Total.{only-opened, reached-piece, only-piece, reached-strict, only-strict, reached-lenient, only-lenient, only-owed}
-use Rattle.klovdrun.specs.declared.Answer.{Answer}
-use Rattle.klovdrun.specs.Numbers.{oneNumber, qpNumbers, qp7Numbers, standNumbers, owingNumbers}
+use Rattle.numbers.specs.declared.Answer.{Answer}
+use Rattle.numbers.specs.Numbers.{oneNumber, qpNumbers, qp7Numbers, standNumbers, owingNumbers}
 use Rattle.klovdrun.specs.Wrapped.{SpCarries, Advances, stepTo}
 use Rattle.klovdrun.proofs.klov_detect_format.Kinds as format
 use Rattle.klovdrun.proofs.klov_detect_format.Reads as format-reads

@@ -52,14 +52,14 @@ use Rattle.reader.proofs.Reader as T
 use Rattle.reader.proofs.Reader.Laws as T′
 use Rattle.reader.proofs.Step as S
 use Rattle.reader.proofs.Step.Laws as S′
-use Rattle.klovdrun.specs.declared.Answer.{Answer}
-use Rattle.klovdrun.specs.Numbers.{owingNumbers}
+use Rattle.numbers.specs.declared.Answer.{Answer}
+use Rattle.numbers.specs.Numbers.{owingNumbers}
 use Rattle.klovdrun.specs.Wrapped.{Advances}
-use Rattle.klovdrun.proofs.Answer as N
-use Rattle.klovdrun.proofs.Answer.Laws as N′
-use Rattle.klovdrun.proofs.numbers.of_step as of-step
-use Rattle.klovdrun.proofs.numbers.of_step.Symbol.{name as #of-step, routine as of-step-routine}
-use Rattle.klovdrun.proofs.numbers.of_step.Met.{met as of-step-met}
+use Rattle.numbers.proofs.Answer as N
+use Rattle.numbers.proofs.Answer.Laws as N′
+use Rattle.numbers.proofs.of_step as of-step
+use Rattle.numbers.proofs.of_step.Symbol.{name as #of-step, routine as of-step-routine}
+use Rattle.numbers.proofs.of_step.Met.{met as of-step-met}
 
 -- A step that the method ensures, and of_step's word on its numbers: the reader that is stored is advanced.
 advances : {outcome : Step → Type 0} (s : Step) {r : Answer} → outcome s → r ≡ owingNumbers (r .second) (demuxedSays (s .answer))

@@ -26,10 +26,10 @@ use Rattle.reader.specs.Calls.{openSaid, pieceSaid, strictSaid, lenientSaid}
 use Rattle.reader.specs.History.{PieceCall, StrictCall, LenientCall}
 use Rattle.reader.proofs.Laws.{at-state}
 use Rattle.reader.proofs.Total.{refused-piece-keeps, refused-strict-keeps, refused-lenient-keeps}
-use Rattle.klovdrun.specs.declared.Answer.{Answer}
+use Rattle.numbers.specs.declared.Answer.{Answer}
 use Rattle.klovdrun.specs.declared.Opened.{Opened}
-use Rattle.klovdrun.specs.declared.Tallied.{Tallied}
-use Rattle.klovdrun.specs.Numbers.{four, numbersOr, oneNumber, qpNumbers, qp7Numbers, standNumbers, owingNumbers, tallyNumbers}
+use Rattle.numbers.specs.declared.Tallied.{Tallied}
+use Rattle.numbers.specs.Numbers.{four, numbersOr, oneNumber, qpNumbers, qp7Numbers, standNumbers, owingNumbers, tallyNumbers}
 use Rattle.klovdrun.specs.Wrapped.{SpCarries, QpCarries, Qp7Carries, FillCarries, OpenCarries, Advances, Tells}
 use Rattle.klovdrun.proofs.Refusing.{payload-numbered, packets-numbered, segments-numbered, records-numbered, fetch-numbered, tally-numbered, open-numbered, piece-numbered, strict-numbered, lenient-numbered}
 

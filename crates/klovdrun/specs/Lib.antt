@@ -1,3 +1,2 @@
 -- The definitions of this crate, a file for each idea. They rest on those of the crates below.
-pub mod Numbers
 pub mod Wrapped

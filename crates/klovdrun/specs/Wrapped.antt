@@ -17,9 +17,9 @@ use Rattle.reader.specs.declared.Reader.{Reader}
 use Rattle.reader.specs.declared.Step.{Step}
 use Rattle.reader.specs.Calls.{Opens}
 use Rattle.reader.specs.History.{OwedCall}
-use Rattle.klovdrun.specs.declared.Answer.{Answer}
+use Rattle.numbers.specs.declared.Answer.{Answer}
 use Rattle.klovdrun.specs.declared.Opened.{Opened}
-use Rattle.klovdrun.specs.Numbers.{oneNumber, qpNumbers, qp7Numbers, standNumbers, owingNumbers}
+use Rattle.numbers.specs.Numbers.{oneNumber, qpNumbers, qp7Numbers, standNumbers, owingNumbers}
 
 -- the wrapped call has this outcome with some answer, and r is that answer's numbers
 pub record Carries {A : Type 0} (outcome : A → Type 0) (numbersOf : A → Answer) (r : Answer) : Type 0 where

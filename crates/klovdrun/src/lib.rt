@@ -2,6 +2,8 @@
 // one of the crates below and hands its numbers over. Rests on all of them. include/klovdrun.h says the same in C.
 use blocks::FilePlace;
 use blocks::StreamPlace;
+use numbers::Answer;
+use numbers::Tallied;
 use reader::Reader;
 ghost use mathlib.Core.Path.{_≡_};
 ghost use lib.ListN.{length};
@@ -18,34 +20,8 @@ ghost use Rattle.frames.specs.Fetch.{fetchFrom, standing};
 ghost use Rattle.tally.specs.Tallies.{tallied};
 ghost use Rattle.reader.specs.State.{Reached};
 ghost use Rattle.reader.specs.History.{PieceCall, StrictCall, LenientCall};
-ghost use Rattle.klovdrun.specs.Numbers.{formatNumber, truthNumber, oneNumber, foundNumbers, standNumbers, tallyNumbers};
+ghost use Rattle.numbers.specs.Numbers.{formatNumber, truthNumber, oneNumber, foundNumbers, standNumbers, tallyNumbers};
 ghost use Rattle.klovdrun.specs.Wrapped.{SpCarries, QpCarries, Qp7Carries, FillCarries, OpenCarries, Advances};
-
-// The numbers that an answer is handed over as.
-mod numbers;
-
-// What most exports answer: a refusal's number, or 0, and the number beside it; then two numbers that the export names.
-#[repr(C)]
-pub struct Answer {
-    pub refusal: u64,
-    pub beside: u64,
-    pub first: u64,
-    pub second: u64,
-}
-
-// The tally's nine numbers. `short` is a word of C's own, so it is `short_count`.
-#[repr(C)]
-pub struct Tallied {
-    pub refusal: u64,
-    pub beside: u64,
-    pub kind: u64,
-    pub start: u64,
-    pub blocks: u64,
-    pub announced: u64,
-    pub handed: u64,
-    pub short_count: u64,
-    pub bytes: u64,
-}
 
 // A fresh reader beside the answer.
 #[repr(C)]

@@ -65,7 +65,7 @@ walk 𝓤 H A W 𝓣 method numbers κs qs b o γ h a known are =
 pub klov-piece-spec : {M : Type 1} → statement M
 unfolding code.routine
 klov-piece-spec 𝓤 H 𝓜 𝓖 𝓡 =
-    export-meets 𝓤 H 𝓜 𝓖 𝓡 export code.function code.env name (code.unfolded 𝓤 H 𝓜 𝓡) code.calls-klovdrun·numbers·of-step
+    export-meets 𝓤 H 𝓜 𝓖 𝓡 export code.function code.env name (code.unfolded 𝓤 H 𝓜 𝓡) code.calls-numbers·of-step
     #piece routine code.calls-reader·Reader·piece
     (λ κs qs h a. met 𝓤 H 𝓜 𝓖 𝓡 ((κs .1, qs .1, tt, (h, a), (lowered h ∷ [], (slice-vals (a .0), (slice-vals (a .1 .0), (slice-vals (a .1 .1 .0), tt))))), tt))
     (walk 𝓤 H (𝓖 .A) (givenOf 𝓤 H 𝓜 𝓖))
