@@ -1,0 +1,76 @@
+//! The archive's side of the measuring: a crate over the host crate's boundary, with memory that is lent to every call and made once,
+//! before anything is measured. It rests on host/src/raw.rs and host/src/error.rs, reached by their paths; it is a crate of its own since
+//! the original has a module `error` too.
+#![deny(unsafe_code)]
+
+#[allow(dead_code)] // only its type is used here
+#[path = "../host/src/error.rs"]
+mod error;
+#[allow(dead_code)] // not every call is measured
+#[path = "../host/src/raw.rs"]
+mod raw;
+
+const PACKET: usize = 42;
+/// A block announces at most 13 packets in the recordings that are measured, and a piece completes at most one block more than it has.
+const PACKETS_A_BLOCK: usize = 13;
+
+/// What is lent: packets and their counts, or two tables of words.
+pub struct Room {
+    pub out: Vec<u8>,
+    pub counts: Vec<u8>,
+    pub first: Vec<u32>,
+    pub second: Vec<u32>,
+}
+
+impl Room {
+    pub fn for_packets(packets: usize) -> Room {
+        Room { out: vec![0; PACKET * packets], counts: vec![0; packets], first: Vec::new(), second: Vec::new() }
+    }
+
+    pub fn for_piece(bytes: usize) -> Room {
+        Room::for_packets(PACKETS_A_BLOCK * (bytes / 512 + 2))
+    }
+
+    pub fn for_words(first: usize, second: usize) -> Room {
+        Room { out: Vec::new(), counts: Vec::new(), first: vec![0; first], second: vec![0; second] }
+    }
+}
+
+/// How many packets.
+pub fn dss(file: &[u8], room: &mut Room) -> usize {
+    raw::demux_dss(file, &mut room.out, &mut room.counts).expect("a DSS recording")
+}
+
+/// How many packets.
+pub fn ds2_sp(file: &[u8], room: &mut Room) -> usize {
+    raw::demux_ds2_sp(file, &mut room.out, &mut room.counts).expect("a DS2 SP recording")
+}
+
+/// How many segments: their table is `first`.
+pub fn ds2_qp(file: &[u8], room: &mut Room) -> usize {
+    raw::demux_ds2_qp(file, &mut room.first).expect("a QP recording").0
+}
+
+/// How many records and segments: their tables are `first` and `second`.
+pub fn ds2_qp7(file: &[u8], room: &mut Room) -> (usize, usize) {
+    raw::demux_ds2_qp7(file, &mut room.first, &mut room.second).expect("a QP7 recording")
+}
+
+/// Packets handed out, how many of them are short, and frames announced.
+pub fn tally(file: &[u8]) -> (usize, usize, usize) {
+    let told = raw::tally(file).expect("a recording");
+    (told.handed as usize, told.short_count as usize, told.announced as usize)
+}
+
+/// Feeds one reader of this kind, ends it strictly, and answers how many packets came out. What each piece brought is shown.
+pub fn pieces(kind: u64, file: &[u8], bytes: usize, room: &mut Room, mut show: impl FnMut(&[u8])) -> usize {
+    let mut reader = raw::open(kind).expect("a kind of reader");
+    let mut sum = 0;
+    for piece in file.chunks(bytes) {
+        let packets = raw::piece(&mut reader, piece, &mut room.out, &mut room.counts).0.expect("a piece");
+        show(&room.out[..PACKET * packets]);
+        sum += packets;
+    }
+    raw::strict_end(&mut reader).0.expect("a complete recording");
+    sum
+}

@@ -1,0 +1,191 @@
+"""Measures every job of target/bench/bench by both sides, and prints one table: x86-64 instructions for each unit, and time where the
+machine is x86-64. Arguments: quick, check, write; bench/run says what they do. Rests on what bench/build built, and on bench/targets.txt."""
+import datetime
+import os
+import platform
+import re
+import subprocess
+import sys
+
+BENCH = "target/bench/bench"
+PLUGIN = "target/bench/count.so"
+PAPER = "docs/PERFORMANCE.md"
+BEGIN, END = "<!-- bench/run write: begin -->\n", "<!-- bench/run write: end -->\n"
+MIB = 1 << 20
+COUNTED, QUICK, TIMED, REPETITIONS = 8 * MIB, MIB, 32 * MIB, 7
+SIZES = [MIB, 8 * MIB, 64 * MIB]
+# the job's name for the driver, what it is, its unit, and whether its growth is looked at
+ROWS = [
+    ("ds2", "whole DS2 SP", "packet", True),
+    ("dss", "whole DSS", "packet", True),
+    ("qp", "QP", "block", True),
+    ("qp7", "QP7", "record", True),
+    ("ds2-512", "DS2 SP in pieces of 512 B", "packet", False),
+    ("ds2-4096", "DS2 SP in pieces of 4 KiB", "packet", True),
+    ("ds2-65536", "DS2 SP in pieces of 64 KiB", "packet", False),
+    ("dss-512", "DSS in pieces of 512 B", "packet", False),
+    ("dss-4096", "DSS in pieces of 4 KiB", "packet", True),
+    ("dss-65536", "DSS in pieces of 64 KiB", "packet", False),
+    ("ds2-tally", "tally of DS2 SP", "packet", True),
+    ("dss-tally", "tally of DSS", "packet", True),
+]
+NATIVE = platform.machine() == "x86_64"
+
+
+def run(*command):
+    """What a command writes, both ways. The environment is empty, since its length moves the stack."""
+    done = subprocess.run(command, env={}, stdout=subprocess.PIPE, stderr=subprocess.PIPE, universal_newlines=True)
+    if done.returncode != 0:
+        sys.exit("bench: %s: %s" % (" ".join(command), done.stderr.strip()))
+    return done.stdout, done.stderr
+
+
+def driver(*arguments):
+    return run(*([] if NATIVE else [qemu(), "-cpu", "qemu64"]), BENCH, *map(str, arguments))[0]
+
+
+def qemu():
+    for folder in os.environ.get("PATH", "").split(":"):
+        if os.access(os.path.join(folder, "qemu-x86_64"), os.X_OK):
+            return os.path.join(folder, "qemu-x86_64")
+    return None
+
+
+def executed(job, size, side, repetitions):
+    command = [qemu(), "-cpu", "qemu64", "-plugin", "file=" + PLUGIN, BENCH, job, size, "count", side, repetitions]
+    return int(re.search(r"^instructions: (\d+)$", run(*map(str, command))[1], re.M).group(1))
+
+
+def instructions(job, size, side):
+    """Of one reading alone: making the recording and the lent memory is in both counts."""
+    return executed(job, size, side, 1) - executed(job, size, side, 0)
+
+
+def units(job, size):
+    """Both sides hand out the same bytes, or the driver fails."""
+    return int(driver(job, size, "check").split()[0])
+
+
+def targets():
+    rows = [line.split() for line in open("bench/targets.txt") if line.strip() and not line.startswith("#")]
+    return {job: (float(target), float(limit)) for job, target, limit in rows}
+
+
+def figure(value):
+    return "%.0f" % value if value >= 100 else "%.1f" % value if value >= 10 else "%.2f" % value
+
+
+def share(ratio):
+    return "%.3f" % ratio if ratio >= 0.01 else "%.4f" % ratio
+
+
+def counted(job, size, target, quick, growing):
+    """The cells of a row that are instructions, and the ratio."""
+    many = units(job, size)
+    ours, rust = instructions(job, size, "ours"), instructions(job, size, "rust")
+    ratio = ours / rust
+    missed = "missed by %.0f %%" % (100 * (ratio / target - 1)) if ratio > target else ""
+    cells = [figure(ours / many), figure(rust / many), share(ratio), "%.2f" % target, missed]
+    if not quick:
+        cells += [figure(grown(job, at, size, ours, many)) if growing else "" for at in SIZES]
+    return cells, ratio
+
+
+def grown(job, at, size, ours, many):
+    return ours / many if at == size else instructions(job, at, "ours") / units(job, at)
+
+
+def timed(job):
+    """The cells of a row that are time: nanoseconds for each unit, and the file's megabytes a second, a copy's too."""
+    many, long = map(int, driver(job, TIMED, "check").split())
+    ours, rust, copy = map(int, driver(job, TIMED, "time", REPETITIONS).split())
+    return [figure(ours / many), figure(rust / many)] + ["%.0f" % (1000 * long / spent) for spent in (ours, rust, copy)]
+
+
+def heads(counts, quick):
+    cells = ["reading", "per"]
+    if counts:
+        cells += ["ours", "the Rust", "ratio", "target", ""]
+        cells += [] if quick else ["ours at %d MiB" % (at // MIB) for at in SIZES]
+    if NATIVE and not quick:
+        cells += ["ours, ns", "the Rust, ns", "ours, MB/s", "the Rust, MB/s", "copy, MB/s"]
+    return cells
+
+
+def line(cells):
+    return "| " + " | ".join(cells) + " |\n"
+
+
+def table(quick, counts):
+    """The table's lines, and each row's ratio."""
+    said, ratios = targets(), {}
+    lines = [line(heads(counts, quick)), line(["---"] * len(heads(counts, quick)))]
+    for job, name, unit, growing in ROWS:
+        cells = [name, unit]
+        if counts:
+            more, ratios[job] = counted(job, QUICK if quick else COUNTED, said[job][0], quick, growing)
+            cells += more
+        if NATIVE and not quick:
+            cells += timed(job)
+        lines.append(line(cells))
+    return lines, ratios
+
+
+def processor():
+    told = run("/usr/bin/lscpu")[0] if os.access("/usr/bin/lscpu", os.X_OK) else ""
+    found = re.search(r"^Model name:\s*(.+)$", told, re.M)
+    return found.group(1) if found else "of a model that is not told"
+
+
+def machine(counts):
+    rustc = subprocess.check_output([os.environ.get("RUSTC", "rustc"), "--version"], universal_newlines=True).strip()
+    emulator = run(qemu(), "--version")[0].splitlines()[0] if counts else "no emulator"
+    return "%s, %s, processor %s; %s; %s.\n" % (datetime.date.today(), platform.machine(), processor(), rustc, emulator)
+
+
+def steady(size):
+    """Whether one row, counted again, is the same."""
+    counts = [[executed("ds2-512", size, side, 1) for side in ("ours", "rust")] for _ in range(2)]
+    return "A row counted again gave the same number to the instruction." if counts[0] == counts[1] else "Counted again, a row gave %s for %s." % tuple(counts)
+
+
+def notes(quick, counts, ratios):
+    size = QUICK if quick else COUNTED
+    lines = []
+    if counts:
+        lines.append("Instructions are counted on recordings of %d MiB. %s" % (size // MIB, steady(size)))
+    else:
+        lines.append("Instructions are not counted: qemu-x86_64 or a C compiler is missing.")
+    if not NATIVE:
+        lines.append("Time is left out: the machine is not x86-64, and the time of an emulator says nothing.")
+    elif not quick:
+        lines.append("Time is the best of %d repetitions on recordings of %d MiB." % (REPETITIONS, TIMED // MIB))
+    missed = ["%s (%s)" % (name, share(ratios[job])) for job, name, _, _ in ROWS if job in ratios and ratios[job] > targets()[job][0]]
+    if counts:
+        lines.append("Targets missed: %s." % (", ".join(missed) or "none"))
+    return ["\n"] + [text + "\n" for text in lines]
+
+
+def write(lines):
+    text = open(PAPER).read()
+    before, rest = text.split(BEGIN)
+    open(PAPER, "w").write(before + BEGIN + "".join(lines) + END + rest.split(END)[1])
+
+
+def main(words):
+    quick, counts = "quick" in words, os.path.exists(PLUGIN)
+    lines, ratios = table(quick, counts)
+    lines = [machine(counts), "\n"] + lines + notes(quick, counts, ratios)
+    sys.stdout.write("".join(lines))
+    if "write" in words:
+        write(lines)
+    if "check" not in words:
+        return 0
+    above = [job for job in ratios if ratios[job] > targets()[job][1]]
+    for job in above:
+        print("bench: %s is at %.3f, above its limit %.3f" % (job, ratios[job], targets()[job][1]))
+    return 1 if above or not counts else 0
+
+
+if __name__ == "__main__":
+    sys.exit(main(sys.argv[1:]))

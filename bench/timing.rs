@@ -1,0 +1,34 @@
+// How long either side takes, and a copy of the same bytes, for scale: the best of some repetitions, in nanoseconds. It rests on the clock
+// of the machine, so it says something only where the program runs without an emulator.
+use crate::files::Recording;
+use crate::jobs::Job;
+use std::time::Instant;
+
+/// The archive's time, the original's, and that of a copy.
+pub fn times(job: Job, recording: &Recording, repetitions: usize) -> [u128; 3] {
+    let file = &recording.file[..];
+    let mut room = job.room(recording);
+    let mut copy = vec![1; file.len()];
+    [
+        best(repetitions, || job.by_ours(file, &mut room)),
+        best(repetitions, || job.by_original(file)),
+        best(repetitions, || copied(file, &mut copy)),
+    ]
+}
+
+fn best(repetitions: usize, mut work: impl FnMut() -> usize) -> u128 {
+    let mut best = u128::MAX;
+    for _ in 0..repetitions {
+        let begin = Instant::now();
+        let handed = work();
+        best = best.min(begin.elapsed().as_nanos());
+        assert!(handed > 0, "nothing was handed out");
+    }
+    best
+}
+
+#[inline(never)]
+fn copied(from: &[u8], to: &mut [u8]) -> usize {
+    to.copy_from_slice(from);
+    to.len()
+}
