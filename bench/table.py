@@ -29,6 +29,15 @@ ROWS = [
     ("ds2-tally", "tally of DS2 SP", "packet", True),
     ("dss-tally", "tally of DSS", "packet", True),
 ]
+RECORDINGS = """\
+The recordings, each with payload bytes that look random, and a last block that announces only what is complete, so that nothing is short:
+
+- DS2 SP: packets without a gap, reads of 42 and 40 bytes in turn; a block announces those whose first byte it has, 12 or 13.
+- DSS: in each block 12 packets, 492 bytes from its payload's start on, the first of them unswapped. There the Rust's stream demuxer reads
+  what its whole reading does.
+- QP: frames of 56 bytes without a gap, one segment; a block announces those whose first byte it has, 9 or 10.
+- QP7: records of 12 and of 56 bytes, as the payload's bytes have it, about as many of each, without a gap, one segment.
+"""
 NATIVE = platform.machine() == "x86_64"
 
 
@@ -72,7 +81,7 @@ def targets():
 
 
 def figure(value):
-    return "%.0f" % value if value >= 100 else "%.1f" % value if value >= 10 else "%.2f" % value
+    return "%.0f" % value if value >= 99.95 else "%.1f" % value if value >= 9.995 else "%.2f" % value
 
 
 def share(ratio):
@@ -163,7 +172,7 @@ def notes(quick, counts, ratios):
     missed = ["%s (%s)" % (name, share(ratios[job])) for job, name, _, _ in ROWS if job in ratios and ratios[job] > targets()[job][0]]
     if counts:
         lines.append("Targets missed: %s." % (", ".join(missed) or "none"))
-    return ["\n"] + [text + "\n" for text in lines]
+    return ["\n"] + [text + "\n" for text in lines] + ["\n", RECORDINGS]
 
 
 def write(lines):

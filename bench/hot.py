@@ -1,4 +1,4 @@
-"""Where the instructions of a job go: python3 bench/profile.py JOB [SIZE] [SIDE] prints, for each function, its instructions for each call of
+"""Where the instructions of a job go: python3 bench/hot.py JOB [SIZE] [SIDE] prints, for each function, its instructions for each call of
 the job's piece (or for the whole reading), and then the same for the hottest straight runs of code. Rests on what bench/build built, on the
 plugin's list of blocks, and on nm."""
 import bisect
@@ -7,6 +7,8 @@ import os
 import subprocess
 import sys
 import tempfile
+
+sys.dont_write_bytecode = True
 from table import BENCH, MIB, PLUGIN, qemu, run
 
 
