@@ -2,11 +2,6 @@
 pub mod Opened
 pub mod Ends
 pub mod Draining
-pub mod Sources
-pub mod Surveying
-pub mod Leaving
-pub mod Judging
-pub mod Absorbing
 pub mod Parts
 pub mod Laws
 pub mod Piecing

@@ -27,7 +27,8 @@ use Rattle.hold.specs.Between.{holdAt, Stands}
 use Rattle.hold.proofs.Ready.{ready-within, ready-none, base-within}
 use Rattle.hold.proofs.Front.{each-fits}
 use Rattle.reader.specs.declared.Reader.{Reader}
-use Rattle.reader.specs.State.{State, isKind, isDss, startOf, blocksIn, readyBy, bytesFrom, handed, readerOf, Sound}
+use Rattle.pieces.specs.Joined.{bytesFrom}
+use Rattle.reader.specs.State.{State, isKind, isDss, startOf, blocksIn, readyBy, handed, readerOf, Sound}
 use Rattle.reader.specs.Calls.{openSaid, Opens}
 
 -- the kinds that there are

@@ -29,9 +29,10 @@ use Rattle.hold.proofs.Ready.{ready-within}
 use Rattle.hold.proofs.Longer.{ready-kept, base-kept, hold-kept, waiting-kept, first-kept, fits-kept, carry-same}
 use Rattle.reader.specs.declared.Reader.{Reader}
 use Rattle.reader.specs.declared.Step.{Step}
-use Rattle.reader.specs.State.{State, isDss, startOf, blocksIn, readingBy, readyBy, bytesFrom, handed, readerOf, Sound}
+use Rattle.pieces.specs.Joined.{bytesFrom}
+use Rattle.reader.specs.State.{State, isDss, startOf, blocksIn, readingBy, readyBy, handed, readerOf, Sound}
 use Rattle.reader.specs.Calls.{brings, pieceSaid, afterPiece, Steps, Hands, Takes}
-use Rattle.reader.specs.Joined.{Joins, Known, gained, judged, accepts, Able, Absorbed}
+use Rattle.pieces.specs.Joined.{Joins, Known, gained, judged, accepts, Able, Absorbed}
 use Rattle.reader.proofs.Opened.{none-stands, none-fits, standingOf, readerWith, stands-for}
 use Rattle.reader.proofs.Laws.{steps-by, hands-by, piece-accepted, bytes-joined}
 

@@ -1,6 +1,5 @@
 -- The definitions of this crate, a file for each idea. They rest on those of the crates below.
 pub mod State
 pub mod Calls
-pub mod Joined
 pub mod History
 pub mod Agreement

@@ -14,6 +14,7 @@ use Rattle.hold.specs.Ready.{readingIn, ready}
 use Rattle.hold.specs.Held.{baseAt, fits, waitingAt, firstByte}
 use Rattle.hold.specs.Parts.{carryAt}
 use Rattle.hold.specs.Between.{holdAt}
+use Rattle.pieces.specs.Joined.{bytesFrom}
 use Rattle.reader.specs.declared.Reader.{Reader}
 
 -- a kind is 0, which is DS2, or 2 or 3, which are DSS
@@ -43,10 +44,6 @@ readyBy kind f = ready (isDss kind) f (startOf kind) (blocksIn kind f)
 -- and whether each of those blocks could be added to the hold
 abbrev pub fitsBy : ℕ → List ℕ → Bool
 fitsBy kind f = fits (isDss kind) f (startOf kind) (blocksIn kind f)
-
--- 512 bytes of f from a place on, zeros past its end
-unfoldable pub bytesFrom : List ℕ → ℕ → List ℕ
-bytesFrom f place = table 512 (λ i. getD f (place + i) 0)
 
 -- the phases are 0 while pieces are taken, 1 while the reader drains, 2 when it has ended
 pub record State : Type 0 where

@@ -1,11 +1,12 @@
 // Reading in pieces: a Reader takes an SP recording's bytes in any cut, hands out packets as they become ready, and ends strictly or
-// leniently. What `Ds2SpStreamDemuxer` and `DssSpStreamDemuxer` do. Rests on hold, for a block more and for packets that are owed, on
-// sp, for the answer's form, on refusals, blocks and tables.
+// leniently. What `Ds2SpStreamDemuxer` and `DssSpStreamDemuxer` do. Rests on pieces, for a piece, on hold, for packets that are owed, on sp,
+// for the answer's form, on packets, refusals, blocks and tables.
 use blocks::BLOCK;
 use blocks::FilePlace;
 use blocks::StreamPlace;
 use hold::Standing;
 use packets::PACKET;
+use pieces::Verdict;
 use refusals::Refusal;
 use sp::Demuxed;
 ghost use mathlib.Core.Path.{_≡_};
@@ -17,13 +18,7 @@ ghost use Rattle.sp.specs.Outcome.{demuxedSays};
 ghost use Rattle.reader.specs.State.{isKind, startOf, Reached};
 ghost use Rattle.reader.specs.Calls.{strictBy, Opens};
 ghost use Rattle.reader.specs.History.{PieceCall, StrictCall, LenientCall, OwedCall};
-ghost use Rattle.reader.specs.Joined.{accepts};
-
-// What a piece would bring, with nothing written.
-mod survey;
-
-// The blocks of a piece.
-mod absorb;
+ghost use Rattle.pieces.specs.Joined.{accepts};
 
 // A reader by value: each call takes it and hands the next one back. All fields are numbers or arrays of them. `kind` is 0 for DS2 and 2
 // or 3 for DSS; `phase` is 0 while it takes pieces, 1 while it drains, 2 when it has ended. Then: bytes taken, frames announced, packets
@@ -63,16 +58,6 @@ fn is_kind(kind: u64) -> bool
     kind == 3
 }
 
-// How far a lies past b.
-fn past(a: usize, b: usize) -> usize
-    ensures { λ r. ⌜ r ≡ a - b ⌝ }
-{
-    if a < b {
-        return 0;
-    }
-    a - b
-}
-
 // Where the audio of a kind starts.
 fn start_of(kind: u64) -> FilePlace
     requires { ⌜ isKind kind ≡ true ⌝ }
@@ -82,37 +67,6 @@ fn start_of(kind: u64) -> FilePlace
         return FilePlace(1024);
     }
     FilePlace(1536)
-}
-
-// What was found in a piece's blocks: whether all fit, what all blocks announce, the first block's byte 0.
-struct Surveyed {
-    fits: bool,
-    announced: usize,
-    first: u8,
-}
-
-// What is answered, and whether that accepts the call.
-struct Verdict {
-    accepted: bool,
-    answer: Demuxed,
-}
-
-fn accepted(n: usize) -> Verdict
-    ensures { λ r. ⌜ (demuxedSays (r .answer) ≡ answers n) × (r .accepted ≡ true) ⌝ }
-{
-    Verdict {
-        accepted: true,
-        answer: Demuxed::Packets(n),
-    }
-}
-
-fn refused(why: Refusal) -> Verdict
-    ensures { λ r. ⌜ (demuxedSays (r .answer) ≡ refusal why) × (r .accepted ≡ false) ⌝ }
-{
-    Verdict {
-        accepted: false,
-        answer: Demuxed::Refused(why),
-    }
 }
 
 fn chosen(test: bool, one: u64, other: u64) -> u64
@@ -163,22 +117,22 @@ fn strict(phase: u64, a: FilePlace, taken: usize, owed: usize) -> Verdict
     ensures { λ r. ⌜ (demuxedSays (r .answer) ≡ strictBy phase (a .0) taken owed) × (r .accepted ≡ accepts (demuxedSays (r .answer))) ⌝ }
 {
     if phase == 1 {
-        return refused(Refusal::ended());
+        return pieces::refused(Refusal::ended());
     }
     if phase == 2 {
-        return accepted(0);
+        return pieces::accepted(0);
     }
     if !header_done(taken, a) {
-        return refused(Refusal::header(a));
+        return pieces::refused(Refusal::header(a));
     }
-    let inside = past(taken, a.0) % BLOCK;
+    let inside = pieces::past(taken, a.0) % BLOCK;
     if inside != 0 {
-        return refused(Refusal::inside(inside));
+        return pieces::refused(Refusal::inside(inside));
     }
     if owed != 0 {
-        return refused(Refusal::owed(owed));
+        return pieces::refused(Refusal::owed(owed));
     }
-    accepted(0)
+    pieces::accepted(0)
 }
 
 fn lenient_answer(done: bool, a: FilePlace, some: usize) -> Demuxed
@@ -242,7 +196,7 @@ impl Reader {
         let mut partial = self.partial;
         let mut waiting = self.waiting;
         let room = room_for(out.len(), counts.len());
-        let verdict = survey::decide(
+        let verdict = pieces::survey::decide(
             dss,
             a,
             self.phase,
@@ -254,7 +208,7 @@ impl Reader {
             room,
         );
         let accepted = verdict.accepted;
-        let now = absorb::absorb(
+        let now = pieces::absorb::absorb(
             accepted,
             dss,
             a,

@@ -2,7 +2,7 @@
 -- Assumes nothing.
 use mathlib.Core.Path.{sym, _∙_}
 use borrow.Author.Tests.{not-true, not-false}
-use Rattle.reader.proofs.Judging.{says-no, says-yes}
+use Rattle.pieces.proofs.Judging.{says-no, says-yes}
 use Rattle.reader.proofs.Ends.{strict-drains, strict-ended, strict-cut, strict-inside, strict-owes, strict-ends}
 use borrow.Author.Needs.{needs}
 use Rattle.reader.proofs.strict.Statement.{statement}

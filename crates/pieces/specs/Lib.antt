@@ -1,0 +1,2 @@
+-- The definitions of this crate. They rest on those of the crates below.
+pub mod Joined
