@@ -1,5 +1,5 @@
 """header.py HEADER FOLDER [ARCHIVE]: include/klovdrun.h and the Rust crate whose sources are in FOLDER say what the exports of
-crates/klovdrun say.
+crates/klovdrun and the structs that they answer say.
 
 Reads the exports' signatures and the structs from the Rattle sources, writes what C and Rust must say of them, and compares: names, order,
 types, sizes, constants, and the functions that the archive has. Rests on the sources' own layout, which `rt fmt` keeps, and on the
@@ -12,6 +12,7 @@ import sys
 
 SCALARS = {"u8": ("uint8_t", 1), "u32": ("uint32_t", 4), "u64": ("uint64_t", 8), "usize": ("size_t", 8)}
 RATTLE = "crates/klovdrun/src/lib.rt"
+STRUCTS = {"Reader": "crates/reader/src/lib.rt", "Answer": "crates/numbers/src/lib.rt", "Tallied": "crates/numbers/src/lib.rt", "Opened": RATTLE}
 CONSTANTS = {"LIMIT": "blocks", "PACKET": "packets", "FRAME": "frames", "PAYLOAD": "blocks", "BLOCK": "blocks", "HOLD": "hold"}
 IN_HEADER = ("LIMIT", "PACKET", "FRAME", "PAYLOAD")
 IN_RUST = ("LIMIT", "PACKET", "FRAME", "PAYLOAD", "BLOCK")
@@ -42,15 +43,15 @@ def exports():
     return found
 
 
-def fields(path, name):
-    inside = re.search(r"#\[repr\(C\)\]\s+pub struct " + name + r" \{(.*?)\n\}", text(path), re.S).group(1)
+def fields(name):
+    inside = re.search(r"#\[repr\(C\)\]\s+pub struct " + name + r" \{(.*?)\n\}", text(STRUCTS[name]), re.S).group(1)
     return re.findall(r"(?:pub )?(\w+): ([^,\n]+),", inside)
 
 
-def layout(path, name):
+def layout(name):
     """The size and the alignment of a struct by C's rules, and each field's place."""
     at, most, places = 0, 1, []
-    for field, kind in fields(path, name):
+    for field, kind in fields(name):
         size, align = measure(kind)
         at = -(-at // align) * align
         places.append((field, at))
@@ -65,7 +66,7 @@ def measure(kind):
         return size * int(array.group(2)), align
     if kind in SCALARS:
         return SCALARS[kind][1], SCALARS[kind][1]
-    size, align, _ = layout("crates/reader/src/lib.rt" if kind == "Reader" else RATTLE, kind)
+    size, align, _ = layout(kind)
     return size, align
 
 
@@ -111,16 +112,16 @@ def check_c(header):
     bare = re.sub(r"/\*.*?\*/", "", header, flags=re.S)
     compare("header", expected, [squeeze(line) for line in re.findall(r"^\w[\w *]*\bklov_\w+\([^;]*\);", bare, re.M)])
     for name in ("Answer", "Tallied", "Opened"):
-        expected = [f"{c_type(kind)} {field};" for field, kind in fields(RATTLE, name)]
+        expected = [f"{c_type(kind)} {field};" for field, kind in fields(name)]
         inside = re.search(r"typedef struct \{([^}]*)\} klov_" + name.lower() + ";", bare).group(1)
         compare("klov_" + name.lower(), expected, [squeeze(line) for line in inside.strip().splitlines()])
-    size, align, _ = layout("crates/reader/src/lib.rt", "Reader")
+    size, align, _ = layout("Reader")
     check_constant(header, r"#define KLOV_READER_SIZE (\w+)u", size)
     check_constant(header, r"#define KLOV_READER_ALIGN (\w+)u", align)
     for name in IN_HEADER:
         check_constant(header, rf"#define KLOV_{name} (\w+)u", constant(name))
-    if layout(RATTLE, "Opened")[2][1] != ("reader", layout(RATTLE, "Answer")[0]):
-        say("klov_opened", "the reader right after the answer", layout(RATTLE, "Opened")[2])
+    if layout("Opened")[2][1] != ("reader", layout("Answer")[0]):
+        say("klov_opened", "the reader right after the answer", layout("Opened")[2])
     for number in range(1, 15):
         line = re.search(rf"^ \* +{number}  \S.*$", header, re.M)
         if not line:
@@ -141,7 +142,7 @@ def check_constant(source, pattern, value):
 
 
 def check_rust(source, root):
-    check_constant(source, r"const READER_SIZE: usize = (\w+);", layout("crates/reader/src/lib.rt", "Reader")[0])
+    check_constant(source, r"const READER_SIZE: usize = (\w+);", layout("Reader")[0])
     for name in IN_RUST:
         check_constant(root, rf"pub const {name}: usize = (\w+);", constant(name))
     expected = []
@@ -153,7 +154,7 @@ def check_rust(source, root):
     compare("Rust", expected, found)
     for name in ("Answer", "Tallied", "Opened"):
         inside = re.search(r"#\[repr\(C\)\]\n(?:#\[.*\]\n)?(?:pub\(crate\) )?struct " + name + r" \{(.*?)\n\}", source, re.S).group(1)
-        compare("Rust " + name, fields(RATTLE, name), re.findall(r"(\w+): (\w+),", inside))
+        compare("Rust " + name, fields(name), re.findall(r"(\w+): (\w+),", inside))
 
 
 def check_archive(archive):
@@ -165,10 +166,10 @@ def check_compiled(path):
     """What a C compiler makes of the header: the structs' sizes and the reader's alignment. Any machine's compiler will do."""
     lines = [f'#include "{path}"']
     for name in ("Answer", "Tallied", "Opened"):
-        lines.append(f'_Static_assert(sizeof(klov_{name.lower()}) == {layout(RATTLE, name)[0]}, "size");')
-    size, align, _ = layout("crates/reader/src/lib.rt", "Reader")
+        lines.append(f'_Static_assert(sizeof(klov_{name.lower()}) == {layout(name)[0]}, "size");')
+    size, align, _ = layout("Reader")
     lines.append(f'_Static_assert(sizeof(klov_reader) == {size} && _Alignof(klov_reader) == {align}, "reader");')
-    lines.append(f'_Static_assert(offsetof(klov_opened, reader) == {layout(RATTLE, "Answer")[0]}, "opened");')
+    lines.append(f'_Static_assert(offsetof(klov_opened, reader) == {layout("Answer")[0]}, "opened");')
     command = [os.environ.get("CC", "cc"), "-std=c11", "-Wall", "-Wextra", "-Werror", "-I.", "-fsyntax-only", "-xc", "-"]
     done = subprocess.run(command, input="\n".join(lines), capture_output=True, text=True)
     if done.returncode:
