@@ -1,11 +1,7 @@
 -- The laws and theorems that belong to no one function. They rest on the definitions in specs/.
-pub mod Admissions
 pub mod Format
 pub mod Header
 pub mod Types
-pub mod Payload
-pub mod Refusing
 pub mod Start
 pub mod Settled
 pub mod Rules
-pub mod Alike

@@ -3,5 +3,3 @@ pub mod Header
 pub mod Start
 pub mod Kinds
 pub mod Format
-pub mod Admissions
-pub mod Payload

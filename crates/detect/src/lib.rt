@@ -1,17 +1,12 @@
-// Detection: what a file is by its magic and its type, and what every whole call asks first.
-// Rests on blocks, for places and headers, on magic and on refusals.
-use blocks::FilePlace;
+// Detection: what a file is by its magic and its type.
+// Rests on blocks, for places and headers, on magic and on tables.
 use magic::Magic;
-use refusals::Refusal;
 ghost use mathlib.Core.Path.{_≡_};
 ghost use Rattle.detect.specs.Kinds.{formatOf};
 ghost use Rattle.detect.specs.Format.{formatBy, detected};
 
 // Where DS2's audio starts, and of what type it is.
 pub mod ds2;
-
-// What every whole call asks first, and a block's payload.
-pub mod whole;
 
 // Where the type stands if the audio starts at 0x600: a shorter file has no format.
 const TYPE_PLACE: usize = 0x604;
@@ -31,23 +26,6 @@ pub enum AudioFormat {
     Ds2Qp,
     Ds2Qp7,
     GrundigSp,
-}
-
-// A file that a whole call takes: where its audio starts, and how many whole blocks follow.
-pub struct Recording {
-    pub start: FilePlace,
-    pub blocks: usize,
-}
-
-pub enum Admission {
-    Admitted(Recording),
-    Refused(Refusal),
-}
-
-// Where in the file a block's payload stands.
-pub enum PayloadAnswer {
-    At(FilePlace),
-    Refused(Refusal),
 }
 
 // What a type is reported as.

@@ -15,14 +15,14 @@ use Rattle.blocks.proofs.Headers.{announced-none, announced-more}
 use Rattle.magic.specs.declared.Magic.the-variants.{Ds2}
 use Rattle.magic.specs.Magics.{spells, ds2By, magicOf}
 use Rattle.refusals.specs.Said.{answers, refuses}
-use Rattle.detect.specs.declared.Recording.{Recording}
+use Rattle.whole.specs.declared.Recording.{Recording}
 use Rattle.detect.specs.declared.Kind.{Kind}
 use Rattle.detect.specs.declared.Kind.the-variants.{Sp}
 use Rattle.detect.specs.Header.{goodHeader}
 use Rattle.detect.specs.Start.{audioStart}
 use Rattle.detect.specs.Kinds.{formatType}
-use Rattle.detect.specs.Admissions.{admissionAt, admission, typeIn, ds2Admission}
-use Rattle.detect.proofs.Admissions.{ds2-at, admitted, ds2-goes-on, of-that-kind}
+use Rattle.whole.specs.Admissions.{admissionAt, admission, typeIn, ds2Admission}
+use Rattle.whole.proofs.Admissions.{ds2-at, admitted, ds2-goes-on, of-that-kind}
 use Rattle.detect.proofs.Types.{type-here}
 use Rattle.detect.proofs.Rules.{none-good-start}
 use Rattle.packets.specs.Packet.{fileCount}

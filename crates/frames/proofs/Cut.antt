@@ -14,9 +14,9 @@ use Rattle.tables.proofs.Cases.{by-order}
 use Rattle.blocks.specs.Stream.{joined}
 use Rattle.blocks.proofs.Stream.{joined-long}
 use Rattle.refusals.specs.Said.{answers}
-use Rattle.detect.specs.declared.Recording.{Recording}
-use Rattle.detect.specs.Admissions.{admission}
-use Rattle.detect.proofs.Admissions.{sound, few-blocks}
+use Rattle.whole.specs.declared.Recording.{Recording}
+use Rattle.whole.specs.Admissions.{admission}
+use Rattle.whole.proofs.Admissions.{sound, few-blocks}
 use Rattle.frames.specs.Frames.{frameSize, handedOut}
 use Rattle.frames.specs.Cut.{cut, fetchedAt, fetchedFrames}
 use Rattle.frames.proofs.Frames.{frame-found, frame-missing, handed-among}

@@ -17,9 +17,9 @@ use Rattle.blocks.proofs.Places.{stream-in}
 use Rattle.refusals.specs.declared.Refusal.{Refusal}
 use Rattle.refusals.specs.Said.{Said, answers, refuses, demand, refusal}
 use Rattle.refusals.proofs.Said.{passed, went-on}
-use Rattle.detect.specs.declared.Recording.{Recording}
-use Rattle.detect.specs.Admissions.{admission, streamIn}
-use Rattle.detect.proofs.Admissions.{sound}
+use Rattle.whole.specs.declared.Recording.{Recording}
+use Rattle.whole.specs.Admissions.{admission, streamIn}
+use Rattle.whole.proofs.Admissions.{sound}
 use Rattle.frames.specs.declared.Fetched.{Fetched}
 use Rattle.frames.specs.declared.Fetched.the-variants.{Refused}
 use Rattle.frames.specs.Fetch.{canFetch, fetchFrom, isInside, inFile, inScratch, standIn, standing, fetchedSays, filledFrom, filled, shownFrom, shown, Fills, Fetchable}

@@ -18,8 +18,8 @@ use Rattle.blocks.proofs.Stream.{stream-part, together}
 use Rattle.refusals.specs.declared.Refusal.{Refusal}
 use Rattle.refusals.specs.Said.{answers, refusal}
 use Rattle.refusals.proofs.Said.{not-both}
-use Rattle.detect.specs.declared.Recording.{Recording}
-use Rattle.detect.specs.Admissions.{admission}
+use Rattle.whole.specs.declared.Recording.{Recording}
+use Rattle.whole.specs.Admissions.{admission}
 use Rattle.frames.specs.Fetch.{canFetch, fetchFrom, isInside, standing, filledFrom, filled, shownFrom, shown, Fetchable}
 use Rattle.tables.proofs.Cases.{by-test}
 use Rattle.refusals.proofs.Said.{by-said}

@@ -14,8 +14,8 @@ use Rattle.blocks.specs.Stream.{joined}
 use Rattle.refusals.specs.declared.Refusal.{Refusal}
 use Rattle.refusals.specs.Said.{Said, answers, refusal}
 use Rattle.refusals.proofs.Said.{only-one}
-use Rattle.detect.specs.declared.Recording.{Recording}
-use Rattle.detect.specs.Admissions.{admission}
+use Rattle.whole.specs.declared.Recording.{Recording}
+use Rattle.whole.specs.Admissions.{admission}
 use Rattle.frames.specs.declared.Fetched.{Fetched}
 use Rattle.frames.specs.declared.Fetched.the-variants.{InFile, InScratch, Refused}
 use Rattle.frames.specs.Fetch.{Stand, inFile, inScratch, fetchFrom, isInside, fetchedSays, shown, Fills}

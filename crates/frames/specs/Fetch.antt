@@ -9,8 +9,8 @@ use lib.Dec.{leb}
 use Rattle.tables.specs.Lent.{over}
 use Rattle.blocks.specs.Places.{Whole, fileOf}
 use Rattle.refusals.specs.Said.{Said, answers, refusal, demand, onward}
-use Rattle.detect.specs.declared.Recording.{Recording}
-use Rattle.detect.specs.Admissions.{admission, streamIn}
+use Rattle.whole.specs.declared.Recording.{Recording}
+use Rattle.whole.specs.Admissions.{admission, streamIn}
 use Rattle.frames.specs.declared.Fetched.{Fetched}
 use Rattle.frames.specs.declared.Fetched.the-variants.{InFile, InScratch, Refused}
 

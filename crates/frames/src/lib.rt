@@ -4,9 +4,9 @@ use blocks::FilePlace;
 use blocks::HEADER;
 use blocks::PAYLOAD;
 use blocks::StreamPlace;
-use detect::Admission;
-use detect::Recording;
 use refusals::Refusal;
+use whole::Admission;
+use whole::Recording;
 ghost use mathlib.Core.Path.{_≡_};
 ghost use Prim.Native.Nat.{_+_, _*_, _<_, _≤_, _^_};
 ghost use mathlib.Core.Bool.{cond};
@@ -16,7 +16,7 @@ ghost use Rattle.tables.specs.Lent.{Leaves};
 ghost use Rattle.blocks.specs.Places.{Whole, fileOf};
 ghost use Rattle.blocks.specs.Headers.{firstOf};
 ghost use Rattle.refusals.specs.Said.{answers, demand};
-ghost use Rattle.detect.specs.Admissions.{admissionSays, streamIn};
+ghost use Rattle.whole.specs.Admissions.{admissionSays, streamIn};
 ghost use Rattle.frames.specs.Start.{framesStart};
 ghost use Rattle.frames.specs.Frames.{frameOf};
 ghost use Rattle.frames.specs.Fetch.{canFetch, fetchFrom, isInside, standIn, standing, fetchedSays, filledFrom, shownFrom, shown, Fills, Fetchable};
@@ -133,7 +133,7 @@ fn with_frame(recording: Recording, place: StreamPlace, size: usize, room: usize
 fn fetch_from(file: &[u8], place: StreamPlace, size: usize, room: usize) -> Admission
     ensures { λ r. ⌜ admissionSays r ≡ fetchFrom (now (file .entry)) (place .0) size room ⌝ }
 {
-    let asked = detect::whole::admit(file, false, true);
+    let asked = whole::admit(file, false, true);
     match asked {
         Admission::Refused(why) => Admission::Refused(why),
         Admission::Admitted(recording) => with_frame(recording, place, size, room),

@@ -10,9 +10,9 @@ use Rattle.blocks.specs.Places.{limit}
 use Rattle.refusals.specs.Said.{Said, Numbered}
 use Rattle.refusals.proofs.Numbered.{answered, asked, goes-on}
 use Rattle.detect.specs.declared.Kind.the-variants.{Sp, Qp, Qp7}
-use Rattle.detect.specs.Admissions.{admission, ds2Admission}
-use Rattle.detect.specs.Payload.{placeIn, payloadPlace}
-use Rattle.detect.proofs.Refusing.{admitting, ds2-admitting}
+use Rattle.whole.specs.Admissions.{admission, ds2Admission}
+use Rattle.whole.specs.Payload.{placeIn, payloadPlace}
+use Rattle.whole.proofs.Refusing.{admitting, ds2-admitting}
 use Rattle.sp.specs.Readings.{Reading, total, dssReading, ds2Reading}
 use Rattle.sp.specs.Outcome.{inRoom, answered as packets}
 use Rattle.qp.specs.Segments.{qpReading}

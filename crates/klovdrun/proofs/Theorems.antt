@@ -6,7 +6,7 @@ use mathlib.Core.List.{List}
 use native.Mathlib.Omega.{arith}
 use lib.ListN.{length}
 use Rattle.refusals.specs.Said.{Said, answers, refusal, Numbered}
-use Rattle.detect.specs.Payload.{payloadPlace}
+use Rattle.whole.specs.Payload.{payloadPlace}
 use Rattle.sp.specs.Readings.{Reading}
 use Rattle.sp.specs.Outcome.{roomIn, inRoom, answered as packets}
 use Rattle.sp.proofs.Theorems.{refused-changes-nothing}

@@ -11,7 +11,7 @@ ghost use Rattle.detect.specs.Header.{goodHeader};
 ghost use Rattle.detect.specs.Start.{audioStart};
 ghost use Rattle.detect.specs.Kinds.{formatType};
 ghost use Rattle.detect.specs.Format.{detected};
-ghost use Rattle.detect.specs.Payload.{payloadPlace};
+ghost use Rattle.whole.specs.Payload.{payloadPlace};
 ghost use Rattle.sp.specs.Readings.{dssReading, ds2Reading};
 ghost use Rattle.qp.specs.Segments.{qpReading};
 ghost use Rattle.qp7.specs.Walk.{qp7Reading};
@@ -66,7 +66,7 @@ pub extern "C" fn klov_is_ds2_audio_block_header(header: &[u8]) -> u8
 pub extern "C" fn klov_payload(file: &[u8], block: usize) -> Answer
     ensures { λ r. ⌜ r ≡ oneNumber (payloadPlace (now (file .entry)) block) ⌝ }
 {
-    let answer = detect::whole::payload_place(file, block);
+    let answer = whole::payload_place(file, block);
     numbers::of_payload(answer)
 }
 

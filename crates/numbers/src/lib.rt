@@ -1,16 +1,16 @@
 // The numbers that an answer of the crates below is handed over as, for C. Everything public here is for the crates above. Rests on the
 // enums of those crates.
 use detect::AudioFormat;
-use detect::PayloadAnswer;
 use frames::Fetched;
 use frames::Found;
 use reader::Step;
 use refusals::Refusal;
 use tally::Figures;
 use tally::FileKind;
+use whole::PayloadAnswer;
 ghost use mathlib.Core.Path.{_≡_};
 ghost use Rattle.refusals.specs.Said.{answers, refusal};
-ghost use Rattle.detect.specs.Payload.{payloadSays};
+ghost use Rattle.whole.specs.Payload.{payloadSays};
 ghost use Rattle.sp.specs.Outcome.{demuxedSays};
 ghost use Rattle.qp.specs.Outcome.{demuxedSays as qpSays};
 ghost use Rattle.qp7.specs.Outcome.{demuxedSays as qp7Says};

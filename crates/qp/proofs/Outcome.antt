@@ -16,9 +16,9 @@ use Rattle.refusals.specs.declared.Refusal.{Refusal}
 use Rattle.refusals.specs.Numbers.{numbered}
 use Rattle.refusals.specs.Said.{Said, answers, refusal}
 use Rattle.refusals.proofs.Said.{went-on, only-one, readFrom, asked-of}
-use Rattle.detect.specs.declared.Recording.{Recording}
+use Rattle.whole.specs.declared.Recording.{Recording}
 use Rattle.detect.specs.declared.Kind.the-variants.{Qp}
-use Rattle.detect.specs.Admissions.{announcedBy, ds2Admission}
+use Rattle.whole.specs.Admissions.{announcedBy, ds2Admission}
 use Rattle.qp.specs.declared.Totals.{Totals}
 use Rattle.qp.specs.declared.Demuxed.{Demuxed}
 use Rattle.qp.specs.declared.Demuxed.the-variants.{Segments, Refused}

@@ -21,10 +21,10 @@ use Rattle.blocks.proofs.Stream.{joined-long}
 use Rattle.refusals.specs.declared.Refusal.{Refusal}
 use Rattle.refusals.specs.Said.{Said, answers, refuses, refusal}
 use Rattle.refusals.proofs.Said.{not-both, went-on}
-use Rattle.detect.specs.declared.Recording.{Recording}
+use Rattle.whole.specs.declared.Recording.{Recording}
 use Rattle.detect.specs.declared.Kind.the-variants.{Qp}
-use Rattle.detect.specs.Admissions.{announcedBy, ds2Admission}
-use Rattle.detect.proofs.Admissions.{ds2-admitted}
+use Rattle.whole.specs.Admissions.{announcedBy, ds2Admission}
+use Rattle.whole.proofs.Admissions.{ds2-admitted}
 use Rattle.frames.specs.Frames.{frameSize, handedOut, shortAmong}
 use Rattle.frames.specs.Cut.{cut, fetchedFrames}
 use Rattle.frames.proofs.Frames.{handed-is, short-is, sizes-add-up}

@@ -6,7 +6,7 @@ use lib.ListN.{take, drop}
 use Rattle.tables.specs.Table.{table, sum, sumOf}
 use Rattle.tables.specs.Entries.{inTurn}
 use Rattle.blocks.specs.Stream.{joined}
-use Rattle.detect.specs.declared.Recording.{Recording}
+use Rattle.whole.specs.declared.Recording.{Recording}
 use Rattle.frames.specs.Frames.{frameSize, handedOut, shortAmong, missingOf}
 use Rattle.frames.specs.Cut.{cut, fetchedFrames}
 use Rattle.qp.specs.declared.Segment.{Segment}

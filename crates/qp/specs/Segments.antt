@@ -7,9 +7,9 @@ use lib.ListN.{length}
 use lib.Dec.{ltb, eqb}
 use Rattle.blocks.specs.Headers.{firstOf, countOf}
 use Rattle.refusals.specs.Said.{Said, answers, onward}
-use Rattle.detect.specs.declared.Recording.{Recording}
+use Rattle.whole.specs.declared.Recording.{Recording}
 use Rattle.detect.specs.declared.Kind.the-variants.{Qp}
-use Rattle.detect.specs.Admissions.{announcedBy, ds2Admission}
+use Rattle.whole.specs.Admissions.{announcedBy, ds2Admission}
 use Rattle.frames.specs.Start.{framesStart}
 use Rattle.qp.specs.declared.Segment.{Segment}
 

@@ -3,11 +3,11 @@
 // Rests on detect, which says whether the file is taken, on frames, for where a block starts, on refusals, blocks and tables.
 use blocks::PAYLOAD;
 use blocks::StreamPlace;
-use detect::Admission;
 use detect::Kind;
-use detect::Recording;
 use frames::FRAME;
 use refusals::Refusal;
+use whole::Admission;
+use whole::Recording;
 ghost use mathlib.Core.Path.{_≡_};
 ghost use Prim.Native.Nat.{ℕ, _+_, _*_, _<_, _≤_, _^_};
 ghost use mathlib.Core.Bool.{cond};
@@ -16,7 +16,7 @@ ghost use lib.Dec.{ltb};
 ghost use Rattle.tables.specs.Entries.{Puts};
 ghost use Rattle.blocks.specs.Headers.{Bytes};
 ghost use Rattle.refusals.specs.Said.{answers};
-ghost use Rattle.detect.specs.Admissions.{Sound};
+ghost use Rattle.whole.specs.Admissions.{Sound};
 ghost use Rattle.qp.specs.Segments.{Gathered, counted, segmentsFrom, readingOf, qpReading};
 ghost use Rattle.qp.specs.Outcome.{width, entryOf, Demuxes};
 ghost use Rattle.qp.specs.Written.{numbersOf, Near, Holds, Closes, Moves};
@@ -206,7 +206,7 @@ pub fn demux_ds2_qp(file: &[u8], table: &mut [u32]) -> Demuxed
     ensures outcome { λ r. ⌜ Demuxes (qpReading (now (file .entry))) (now (table .entry)) (now (table .exit)) r ⌝ }
     ensures bytes { λ _. ⌜ Bytes (now (file .entry)) ⌝ }
 {
-    let asked = detect::whole::admit_ds2(file, Kind::Qp);
+    let asked = whole::admit_ds2(file, Kind::Qp);
     match asked {
         Admission::Refused(why) => Demuxed::Refused(why),
         Admission::Admitted(recording) => read(file, recording, table),

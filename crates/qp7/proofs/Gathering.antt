@@ -10,7 +10,7 @@ use Rattle.tables.proofs.Cases.{by-order}
 use Rattle.refusals.specs.declared.Refusal.{Refusal}
 use Rattle.refusals.specs.Said.{Said, answers, refusal, onward}
 use Rattle.refusals.proofs.Said.{not-both, went-on, for-the-answer}
-use Rattle.detect.specs.declared.Recording.{Recording}
+use Rattle.whole.specs.declared.Recording.{Recording}
 use Rattle.qp7.specs.declared.Totals.{Totals}
 use Rattle.qp7.specs.declared.Walk.{Walk}
 use Rattle.qp7.specs.declared.Walked.{Walked}

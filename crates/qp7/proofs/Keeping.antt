@@ -10,9 +10,9 @@ use Rattle.blocks.specs.Places.{streamAt}
 use Rattle.blocks.specs.Headers.{firstOf, countOf, announcedIn}
 use Rattle.refusals.specs.Said.{answers, onward}
 use Rattle.refusals.proofs.Said.{went-on, for-the-answer}
-use Rattle.detect.specs.declared.Recording.{Recording}
+use Rattle.whole.specs.declared.Recording.{Recording}
 use Rattle.detect.specs.declared.Kind.the-variants.{Qp7}
-use Rattle.detect.specs.Admissions.{announcedBy, ds2Admission}
+use Rattle.whole.specs.Admissions.{announcedBy, ds2Admission}
 use Rattle.frames.specs.Start.{framesStart}
 use Rattle.qp7.specs.Records.{recordAt}
 use Rattle.qp7.specs.Walk.{Gathered, nothing, noted, raised, closing, reads, withBlock, gatheredTo, gatheredFrom, qp7Reading}

@@ -10,9 +10,9 @@ use lib.Seq.{getD-append-seam}
 use Rattle.tables.proofs.Cases.{by-order}
 use Rattle.blocks.specs.Places.{streamAt}
 use Rattle.refusals.specs.Said.{answers}
-use Rattle.detect.specs.declared.Recording.{Recording}
+use Rattle.whole.specs.declared.Recording.{Recording}
 use Rattle.detect.specs.declared.Kind.the-variants.{Qp7}
-use Rattle.detect.specs.Admissions.{ds2Admission}
+use Rattle.whole.specs.Admissions.{ds2Admission}
 use Rattle.qp7.specs.Records.{recordSize, recordAt}
 use Rattle.qp7.specs.Walk.{Gathered, noted, raised, closing, qp7Reading, placeAt, sizeAt}
 use Rattle.qp7.proofs.Records.{record-found}

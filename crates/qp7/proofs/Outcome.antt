@@ -13,9 +13,9 @@ use Rattle.refusals.specs.declared.Refusal.{Refusal}
 use Rattle.refusals.specs.Numbers.{numbered}
 use Rattle.refusals.specs.Said.{Said, answers, refuses, refusal, demand}
 use Rattle.refusals.proofs.Said.{passed, went-on, only-outcome-of, for-the-answer, readFrom}
-use Rattle.detect.specs.declared.Recording.{Recording}
+use Rattle.whole.specs.declared.Recording.{Recording}
 use Rattle.detect.specs.declared.Kind.the-variants.{Qp7}
-use Rattle.detect.specs.Admissions.{ds2Admission}
+use Rattle.whole.specs.Admissions.{ds2Admission}
 use Rattle.qp7.specs.declared.Totals.{Totals}
 use Rattle.qp7.specs.declared.Walk.{Walk}
 use Rattle.qp7.specs.declared.Walked.{Walked}

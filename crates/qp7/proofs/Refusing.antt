@@ -10,7 +10,7 @@ use Rattle.blocks.specs.Places.{streamAt}
 use Rattle.blocks.specs.Headers.{firstOf, countOf}
 use Rattle.refusals.specs.Said.{answers, Numbered}
 use Rattle.refusals.proofs.Numbered.{answered, asked, goes-on}
-use Rattle.detect.specs.declared.Recording.{Recording}
+use Rattle.whole.specs.declared.Recording.{Recording}
 use Rattle.frames.specs.Start.{framesStart}
 use Rattle.qp7.specs.Records.{recordSize, recordAt}
 use Rattle.qp7.specs.Walk.{Gathered, noted, raised, closing, reads, withBlock, gatheredTo, gatheredFrom}

@@ -13,10 +13,10 @@ use Rattle.blocks.specs.Stream.{joined}
 use Rattle.refusals.specs.declared.Refusal.{Refusal}
 use Rattle.refusals.specs.Said.{Said, answers, refuses, refusal}
 use Rattle.refusals.proofs.Said.{not-both, for-the-answer}
-use Rattle.detect.specs.declared.Recording.{Recording}
+use Rattle.whole.specs.declared.Recording.{Recording}
 use Rattle.detect.specs.declared.Kind.the-variants.{Qp7}
-use Rattle.detect.specs.Admissions.{ds2Admission, announcedBy}
-use Rattle.detect.proofs.Admissions.{ds2-admitted}
+use Rattle.whole.specs.Admissions.{ds2Admission, announcedBy}
+use Rattle.whole.proofs.Admissions.{ds2-admitted}
 use Rattle.frames.specs.Cut.{fetchedBytes}
 use Rattle.frames.proofs.Shown.{can-be-fetched}
 use Rattle.frames.proofs.Theorems.{fill-then-show-joined}

@@ -9,9 +9,9 @@ use Rattle.tables.specs.Table.{table, sum}
 use Rattle.blocks.specs.Places.{streamAt}
 use Rattle.blocks.specs.Headers.{firstOf, countOf}
 use Rattle.refusals.specs.Said.{Said, answers, onward}
-use Rattle.detect.specs.declared.Recording.{Recording}
+use Rattle.whole.specs.declared.Recording.{Recording}
 use Rattle.detect.specs.declared.Kind.the-variants.{Qp7}
-use Rattle.detect.specs.Admissions.{ds2Admission}
+use Rattle.whole.specs.Admissions.{ds2Admission}
 use Rattle.frames.specs.Start.{framesStart}
 use Rattle.qp7.specs.declared.Segment.{Segment}
 use Rattle.qp7.specs.Records.{recordSize, recordAt}

@@ -3,17 +3,17 @@
 // Rests on detect, which says whether the file is taken, on frames, for where a block starts, on refusals, blocks and tables.
 use blocks::PAYLOAD;
 use blocks::StreamPlace;
-use detect::Admission;
 use detect::Kind;
-use detect::Recording;
 use refusals::Refusal;
+use whole::Admission;
+use whole::Recording;
 ghost use mathlib.Core.Path.{_≡_};
 ghost use Prim.Native.Nat.{_+_, _*_, _<_, _≤_, _^_, max};
 ghost use mathlib.Core.List.{[], _∷_};
 ghost use lib.ListN.{length};
 ghost use Rattle.tables.specs.Entries.{Puts};
 ghost use Rattle.refusals.specs.Said.{answers};
-ghost use Rattle.detect.specs.Admissions.{Sound, streamIn};
+ghost use Rattle.whole.specs.Admissions.{Sound, streamIn};
 ghost use Rattle.qp7.specs.Records.{recordSize, recordAt, recordSays};
 ghost use Rattle.qp7.specs.Walk.{Gathered, nothing, withBlock, gatheredFrom, qp7Reading};
 ghost use Rattle.qp7.specs.Outcome.{width, entryOf, Demuxes};
@@ -315,7 +315,7 @@ fn read(file: &[u8], recording: Recording, records: &mut [u32], segments: &mut [
 pub fn demux_ds2_qp7(file: &[u8], records: &mut [u32], segments: &mut [u32]) -> Demuxed
     ensures { λ r. ⌜ Demuxes (qp7Reading (now (file .entry))) (now (records .entry)) (now (records .exit)) (now (segments .entry)) (now (segments .exit)) r ⌝ }
 {
-    let asked = detect::whole::admit_ds2(file, Kind::Qp7);
+    let asked = whole::admit_ds2(file, Kind::Qp7);
     match asked {
         Admission::Refused(why) => Demuxed::Refused(why),
         Admission::Admitted(recording) => read(file, recording, records, segments),

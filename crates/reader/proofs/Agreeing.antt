@@ -11,15 +11,15 @@ use lib.Dec.{eqb}
 use Rattle.tables.proofs.Cases.{by-test}
 use Rattle.blocks.specs.Places.{limit, wholeBlocks}
 use Rattle.refusals.specs.Said.{Said, answers}
-use Rattle.detect.specs.declared.Recording.{Recording}
+use Rattle.whole.specs.declared.Recording.{Recording}
 use Rattle.detect.specs.declared.Kind.the-variants.{Sp}
 use Rattle.magic.specs.declared.Magic.the-variants.{Dss, Ds2}
 use Rattle.magic.specs.Magics.{magicOf}
 use Rattle.detect.specs.Start.{audioStart}
 use Rattle.detect.specs.Kinds.{formatType, readAs}
-use Rattle.detect.specs.Admissions.{recordingAt, admissionAt, admission}
+use Rattle.whole.specs.Admissions.{recordingAt, admissionAt, admission}
 use Rattle.detect.proofs.Types.{sp-is-0-to-5}
-use Rattle.detect.proofs.Admissions.{admitted, dss-at, ds2-at, ds2-goes-on, of-that-kind}
+use Rattle.whole.proofs.Admissions.{admitted, dss-at, ds2-at, ds2-goes-on, of-that-kind}
 use Rattle.sp.specs.ReadLists.{dssRuns, ds2Runs}
 use Rattle.sp.specs.declared.Demuxed.{Demuxed}
 use Rattle.sp.specs.Readings.{Reading, total, readBy, dssReading, ds2Reading}

@@ -7,13 +7,13 @@ use mathlib.Core.Bool.{Bool, true, false}
 use native.Mathlib.Omega.{arith}
 use Rattle.blocks.proofs.Alike.{AlikeFrom, header-alike, announced-alike, stream-alike}
 use Rattle.refusals.specs.Said.{Said, answers, demand, onward, refusal}
-use Rattle.detect.specs.declared.Recording.{Recording}
+use Rattle.whole.specs.declared.Recording.{Recording}
 use Rattle.detect.specs.declared.Kind.the-variants.{Sp}
 use Rattle.detect.specs.Start.{audioStart}
 use Rattle.detect.specs.Kinds.{readAs}
-use Rattle.detect.specs.Admissions.{admission, typeIn, ofKind, ds2Admission}
-use Rattle.detect.proofs.Admissions.{ds2-recording}
-use Rattle.detect.proofs.Alike.{after-first, kind-alike, admitted-alike}
+use Rattle.whole.specs.Admissions.{admission, typeIn, ofKind, ds2Admission}
+use Rattle.whole.proofs.Admissions.{ds2-recording}
+use Rattle.whole.proofs.Alike.{after-first, kind-alike, admitted-alike}
 use Rattle.sp.specs.ReadLists.{ds2Runs}
 use Rattle.sp.specs.Readings.{Reading, readingOf, readBy, ds2Reading}
 

@@ -13,8 +13,8 @@ use Rattle.blocks.specs.Places.{Whole, streamAt}
 use Rattle.blocks.specs.Headers.{headerByte, flagOf, countOf, announcedIn}
 use Rattle.blocks.proofs.Headers.{header-kept, announced-kept, announced-upto}
 use Rattle.blocks.proofs.Stream.{longer-agrees}
-use Rattle.detect.specs.declared.Recording.{Recording}
-use Rattle.detect.specs.Admissions.{recordingAt, Sound}
+use Rattle.whole.specs.declared.Recording.{Recording}
+use Rattle.whole.specs.Admissions.{recordingAt, Sound}
 use Rattle.packets.specs.Packet.{readSize}
 use Rattle.packets.specs.Walk.{Walk, steps, byteOf, countAt, Complete}
 use Rattle.packets.proofs.Walk.{steps-none, steps-more, steps-upto}

@@ -14,8 +14,8 @@ use Rattle.refusals.specs.Said.{Said, answers, refusal}
 use Rattle.refusals.proofs.Said.{went-on, only-outcome-of, readFrom, asked-of}
 use Rattle.sp.specs.declared.Run.{Run}
 use Rattle.sp.specs.declared.Demuxed.{Demuxed}
-use Rattle.detect.specs.declared.Recording.{Recording}
-use Rattle.detect.specs.Admissions.{announcedBy, Sound}
+use Rattle.whole.specs.declared.Recording.{Recording}
+use Rattle.whole.specs.Admissions.{announcedBy, Sound}
 use Rattle.sp.specs.declared.Demuxed.the-variants.{Packets, Refused}
 use Rattle.sp.specs.Readings.{Reading, total, readingOf, readBy}
 use Rattle.sp.specs.Outcome.{roomIn, inRoom, answered, demuxedSays, Demuxes}

@@ -21,11 +21,11 @@ use Rattle.refusals.specs.declared.Refusal.{Refusal}
 use Rattle.refusals.specs.Numbers.{numbered}
 use Rattle.refusals.specs.Said.{Said, answers, refuses, refusal}
 use Rattle.refusals.proofs.Said.{not-both}
-use Rattle.detect.specs.declared.Recording.{Recording}
+use Rattle.whole.specs.declared.Recording.{Recording}
 use Rattle.detect.specs.declared.Kind.the-variants.{Sp}
 use Rattle.detect.specs.Start.{audioStart}
-use Rattle.detect.specs.Admissions.{admission, ds2Admission, announcedBy}
-use Rattle.detect.proofs.Admissions.{dss-at, ds2-at, bare-header, cut-header, empty-is-sp, ds2-refused, dss-recording, ds2-recording, ds2-admitted, sound, four-bytes}
+use Rattle.whole.specs.Admissions.{admission, ds2Admission, announcedBy}
+use Rattle.whole.proofs.Admissions.{dss-at, ds2-at, bare-header, cut-header, empty-is-sp, ds2-refused, dss-recording, ds2-recording, ds2-admitted, sound, four-bytes}
 use Rattle.packets.specs.Packet.{readSize, carryAfter, from, isWhole}
 use Rattle.packets.specs.Start.{dssStart}
 use Rattle.packets.specs.Walk.{Walk, byteOf, reach, parity}

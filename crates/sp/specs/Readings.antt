@@ -6,9 +6,9 @@ use mathlib.Core.Bool.{Bool, true, false}
 use Rattle.tables.specs.Table.{table}
 use Rattle.blocks.specs.Places.{streamAt}
 use Rattle.refusals.specs.Said.{Said, answers, onward}
-use Rattle.detect.specs.declared.Recording.{Recording}
+use Rattle.whole.specs.declared.Recording.{Recording}
 use Rattle.detect.specs.declared.Kind.the-variants.{Sp}
-use Rattle.detect.specs.Admissions.{admission, ds2Admission}
+use Rattle.whole.specs.Admissions.{admission, ds2Admission}
 use Rattle.packets.specs.Packet.{isWhole}
 use Rattle.packets.specs.Walk.{Walk, byteOf, countAt, Complete}
 use Rattle.sp.specs.declared.Run.{Run}

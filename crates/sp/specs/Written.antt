@@ -7,8 +7,8 @@ use lib.ListN.{length}
 use Rattle.tables.specs.Lent.{Leaves}
 use Rattle.blocks.specs.Places.{Whole}
 use Rattle.refusals.specs.Said.{Said, answers}
-use Rattle.detect.specs.declared.Recording.{Recording}
-use Rattle.detect.specs.Admissions.{announcedBy}
+use Rattle.whole.specs.declared.Recording.{Recording}
+use Rattle.whole.specs.Admissions.{announcedBy}
 use Rattle.packets.specs.Walk.{Walk, steps, joinedAt, countAt}
 use Rattle.sp.specs.Readings.{Reading, total, joinedByteAt, fileCountAt}
 

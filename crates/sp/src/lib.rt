@@ -2,12 +2,12 @@
 // Rests on detect, which says whether the file is taken, on packets, which gives a packet for a read, on refusals, blocks and tables.
 use blocks::FilePlace;
 use blocks::StreamPlace;
-use detect::Admission;
 use detect::Kind;
-use detect::Recording;
 use packets::PACKET;
 use packets::Packet;
 use refusals::Refusal;
+use whole::Admission;
+use whole::Recording;
 ghost use mathlib.Core.Path.{_≡_};
 ghost use Prim.Native.Nat.{_+_, _*_, _/_, _≤_, _<_, _^_, min};
 ghost use mathlib.Core.Bool.{cond};
@@ -16,7 +16,7 @@ ghost use lib.Dec.{leb};
 ghost use Rattle.tables.specs.Lent.{Leaves};
 ghost use Rattle.blocks.specs.Places.{Whole, streamAt};
 ghost use Rattle.refusals.specs.Said.{answers};
-ghost use Rattle.detect.specs.Admissions.{announcedBy, admissionSays};
+ghost use Rattle.whole.specs.Admissions.{announcedBy, admissionSays};
 ghost use Rattle.sp.specs.Runs.{runBegin};
 ghost use Rattle.sp.specs.ReadLists.{dssRun, dssRuns, ds2Runs};
 ghost use Rattle.sp.specs.Readings.{readingOf, readBy, dssReading, ds2Reading};
@@ -191,7 +191,7 @@ fn demux(asked: Admission, file: &[u8], dss: bool, out: &mut [u8], counts: &mut 
 pub fn demux_dss(file: &[u8], out: &mut [u8], counts: &mut [u8]) -> Demuxed
     ensures { λ r. ⌜ Demuxes (dssReading (now (file .entry))) (now (out .entry)) (now (out .exit)) (now (counts .entry)) (now (counts .exit)) r ⌝ }
 {
-    let asked = detect::whole::admit(file, true, false);
+    let asked = whole::admit(file, true, false);
     demux(asked, file, true, out, counts)
 }
 
@@ -199,6 +199,6 @@ pub fn demux_dss(file: &[u8], out: &mut [u8], counts: &mut [u8]) -> Demuxed
 pub fn demux_ds2(file: &[u8], out: &mut [u8], counts: &mut [u8]) -> Demuxed
     ensures { λ r. ⌜ Demuxes (ds2Reading (now (file .entry))) (now (out .entry)) (now (out .exit)) (now (counts .entry)) (now (counts .exit)) r ⌝ }
 {
-    let asked = detect::whole::admit_ds2(file, Kind::Sp);
+    let asked = whole::admit_ds2(file, Kind::Sp);
     demux(asked, file, false, out, counts)
 }

@@ -8,13 +8,13 @@ use Rattle.refusals.specs.declared.Refusal.{Refusal}
 use Rattle.refusals.specs.Said.{Said, answers, refusal, onward}
 use Rattle.refusals.proofs.Said.{by-said, went-on, for-the-answer}
 use Rattle.magic.specs.Magics.{namesDss}
-use Rattle.detect.specs.declared.Recording.{Recording}
+use Rattle.whole.specs.declared.Recording.{Recording}
 use Rattle.detect.specs.declared.Kind.{Kind}
 use Rattle.detect.specs.declared.Kind.the-variants.{Sp, Qp, Qp7}
 use Rattle.detect.specs.Start.{audioStart}
 use Rattle.detect.specs.Kinds.{formatType, kindOf, sameKind}
-use Rattle.detect.specs.Admissions.{recordingAt, admission, typeIn, announcedBy, streamIn, ds2Admission}
-use Rattle.detect.proofs.Admissions.{ds2-recording, ds2-refused, ds2-goes-on, of-that-kind}
+use Rattle.whole.specs.Admissions.{recordingAt, admission, typeIn, announcedBy, streamIn, ds2Admission}
+use Rattle.whole.proofs.Admissions.{ds2-recording, ds2-refused, ds2-goes-on, of-that-kind}
 use Rattle.sp.specs.ReadLists.{dssRuns}
 use Rattle.sp.specs.Readings.{readBy, dssReading, ds2Reading}
 use Rattle.qp.specs.Segments.{qpReading}

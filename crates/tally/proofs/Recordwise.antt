@@ -15,8 +15,8 @@ use Rattle.blocks.specs.Headers.{firstOf, countOf}
 use Rattle.refusals.specs.declared.Refusal.{Refusal}
 use Rattle.refusals.specs.Said.{Said, answers, onward}
 use Rattle.refusals.proofs.Said.{for-the-answer}
-use Rattle.detect.specs.declared.Recording.{Recording}
-use Rattle.detect.specs.Admissions.{streamIn}
+use Rattle.whole.specs.declared.Recording.{Recording}
+use Rattle.whole.specs.Admissions.{streamIn}
 use Rattle.frames.specs.Start.{framesStart}
 use Rattle.qp7.specs.declared.Totals.{Totals}
 use Rattle.qp7.specs.declared.Walk.{Walk}

@@ -7,9 +7,9 @@ use native.Mathlib.Omega.{arith}
 use Rattle.refusals.specs.Said.{Numbered}
 use Rattle.refusals.proofs.Numbered.{answered, goes-on}
 use Rattle.magic.specs.Magics.{namesDss}
-use Rattle.detect.specs.declared.Recording.{Recording}
-use Rattle.detect.specs.Admissions.{admission}
-use Rattle.detect.proofs.Refusing.{admitting}
+use Rattle.whole.specs.declared.Recording.{Recording}
+use Rattle.whole.specs.Admissions.{admission}
+use Rattle.whole.proofs.Refusing.{admitting}
 use Rattle.qp7.specs.Walk.{gatheredFrom}
 use Rattle.qp7.proofs.Refusing.{gathering-all}
 use Rattle.tally.specs.declared.FileKind.{FileKind}

@@ -10,8 +10,8 @@ use Rattle.refusals.specs.declared.Refusal.{Refusal}
 use Rattle.refusals.specs.Said.{answers, refusal}
 use Rattle.refusals.proofs.Said.{went-on, for-the-answer, only-one, readFrom}
 use Rattle.magic.specs.Magics.{namesDss}
-use Rattle.detect.specs.declared.Recording.{Recording}
-use Rattle.detect.specs.Admissions.{admission, announcedBy, streamIn}
+use Rattle.whole.specs.declared.Recording.{Recording}
+use Rattle.whole.specs.Admissions.{admission, announcedBy, streamIn}
 use Rattle.sp.proofs.ReadLists.{ds2-packets, dss-packets}
 use Rattle.qp.specs.Segments.{segmentsFrom}
 use Rattle.qp.specs.Handed.{missingFrom}

@@ -7,8 +7,8 @@ use mathlib.Core.Bool.{Bool, not}
 use Rattle.refusals.specs.declared.Refusal.{Refusal}
 use Rattle.refusals.specs.Said.{Said, answers, refusal}
 use Rattle.magic.specs.Magics.{namesDss}
-use Rattle.detect.specs.declared.Recording.{Recording}
-use Rattle.detect.specs.Admissions.{admission, announcedBy}
+use Rattle.whole.specs.declared.Recording.{Recording}
+use Rattle.whole.specs.Admissions.{admission, announcedBy}
 use Rattle.tally.specs.declared.HandedOut.{HandedOut}
 use Rattle.tally.specs.declared.FileKind.{FileKind}
 use Rattle.tally.specs.declared.Figures.{Figures}

@@ -5,11 +5,11 @@ use mathlib.Core.List.{List}
 use mathlib.Core.Bool.{Bool, cond, not}
 use Rattle.refusals.specs.Said.{Said, answers, refusal, onward}
 use Rattle.magic.specs.Magics.{namesDss}
-use Rattle.detect.specs.declared.Recording.{Recording}
+use Rattle.whole.specs.declared.Recording.{Recording}
 use Rattle.detect.specs.declared.Kind.{Kind}
 use Rattle.detect.specs.declared.Kind.the-variants.{Sp, Qp, Qp7}
 use Rattle.detect.specs.Kinds.{kindOf}
-use Rattle.detect.specs.Admissions.{admission, typeIn, announcedBy, streamIn}
+use Rattle.whole.specs.Admissions.{admission, typeIn, announcedBy, streamIn}
 use Rattle.sp.specs.ReadLists.{dssRuns, ds2Runs}
 use Rattle.sp.specs.Readings.{readingOf}
 use Rattle.qp.specs.Segments.{segmentsFrom}

@@ -3,13 +3,13 @@
 use crate::HandedOut;
 use blocks::PAYLOAD;
 use blocks::StreamPlace;
-use detect::Recording;
 use frames::FRAME;
 use qp::Gathering;
+use whole::Recording;
 ghost use mathlib.Core.Path.{_≡_};
 ghost use Prim.Native.Nat.{_+_, _*_, _≤_, _<_, _^_};
 ghost use mathlib.Core.List.{[], _∷_};
-ghost use Rattle.detect.specs.Admissions.{Sound};
+ghost use Rattle.whole.specs.Admissions.{Sound};
 ghost use Rattle.qp.specs.Segments.{Gathered, openSegment, moved, segmentsFrom};
 ghost use Rattle.qp.specs.Written.{numbersOf, Near};
 ghost use Rattle.tally.specs.HandedOut.{framesOut};

@@ -3,12 +3,12 @@
 use crate::HandedOut;
 use blocks::PAYLOAD;
 use blocks::StreamPlace;
-use detect::Recording;
 use sp::Run;
+use whole::Recording;
 ghost use mathlib.Core.Path.{_≡_};
 ghost use Prim.Native.Nat.{ℕ, _*_, _≤_, _^_};
 ghost use mathlib.Core.List.{[], _∷_};
-ghost use Rattle.detect.specs.Admissions.{Sound, announcedBy};
+ghost use Rattle.whole.specs.Admissions.{Sound, announcedBy};
 ghost use Rattle.sp.specs.ReadLists.{dssRuns, ds2Runs};
 ghost use Rattle.sp.specs.Readings.{readingOf};
 ghost use Rattle.tally.specs.HandedOut.{packetsOut};

@@ -1,13 +1,13 @@
 // The tally of any file: what its whole reading would hand out, in numbers, with no packet, segment or record stored. Complete reads are
 // counted by a division, a block or a recording at a time. Rests on the whole readings and on all that they rest on.
 use blocks::FilePlace;
-use detect::Admission;
 use detect::Kind;
-use detect::Recording;
 use refusals::Refusal;
+use whole::Admission;
+use whole::Recording;
 ghost use mathlib.Core.Path.{_≡_};
 ghost use Prim.Native.Nat.{_+_, _-_, _<_, _^_};
-ghost use Rattle.detect.specs.Admissions.{Sound, announcedBy};
+ghost use Rattle.whole.specs.Admissions.{Sound, announcedBy};
 ghost use Rattle.tally.specs.HandedOut.{together};
 ghost use Rattle.tally.specs.Tallies.{handedBy, countedAs, ds2Kind, kindIn, tallied, talliedSays, countsSay};
 
@@ -138,7 +138,7 @@ pub fn tally(file: &[u8]) -> Tallied
     ensures { λ r. ⌜ talliedSays r ≡ tallied (now (file .entry)) ⌝ }
 {
     let dss = magic::names_dss(file);
-    let asked = detect::whole::admit(file, dss, !dss);
+    let asked = whole::admit(file, dss, !dss);
     match asked {
         Admission::Refused(why) => Tallied::Refused(why),
         Admission::Admitted(recording) => {

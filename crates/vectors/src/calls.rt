@@ -9,7 +9,6 @@ use crate::pieces::with_pieces;
 use blocks::FilePlace;
 use blocks::StreamPlace;
 use detect::AudioFormat;
-use detect::PayloadAnswer;
 use frames::Fetched;
 use refusals::Refusal;
 use sp::Demuxed;
@@ -17,6 +16,7 @@ use tally::Figures;
 use tally::Tallied;
 use trials::ends::Pieces;
 use trials::feeding::Cuts;
+use whole::PayloadAnswer;
 
 // The numbers that make a file, and up to where they were read.
 struct Shape {
@@ -330,7 +330,7 @@ fn fetch(
 }
 
 fn payload(list: &[u8], before: Seen, file: &[u8], block: usize) -> Seen {
-    let answer = detect::whole::payload_place(file, block);
+    let answer = whole::payload_place(file, block);
     let mut seen = match answer {
         PayloadAnswer::Refused(why) => {
             let refused = refusal(list, before, why.number, why.beside);
@@ -341,7 +341,7 @@ fn payload(list: &[u8], before: Seen, file: &[u8], block: usize) -> Seen {
             expect(list, taken, place.0 as u64)
         }
     };
-    let shown = detect::whole::payload(file, block);
+    let shown = whole::payload(file, block);
     seen = expect(list, seen, trials::digest(0, shown, shown.len()));
     seen
 }

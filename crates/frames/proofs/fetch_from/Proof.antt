@@ -4,8 +4,8 @@ use mathlib.Core.Path.{ap}
 use mathlib.Core.Bool.{true, false}
 use denote.Ref.{now}
 use Rattle.tables.proofs.Tests.{told}
-use Rattle.detect.specs.Admissions.{admissionSays}
-use Rattle.detect.proofs.Admissions.{sound, few-blocks}
+use Rattle.whole.specs.Admissions.{admissionSays}
+use Rattle.whole.proofs.Admissions.{sound, few-blocks}
 use Rattle.frames.proofs.Fetch.{fetch-refused, fetch-asks}
 use borrow.Author.Needs.{needs}
 use Rattle.frames.proofs.fetch_from.Statement.{statement}

@@ -3,7 +3,7 @@
 use mathlib.Core.Path.{ap}
 use denote.Ref.{now}
 use Rattle.tables.proofs.Tests.{told}
-use Rattle.detect.specs.Admissions.{admissionSays}
+use Rattle.whole.specs.Admissions.{admissionSays}
 use Rattle.frames.proofs.Fetch.{fetched-from, fill-refused, fill-is}
 use borrow.Author.Needs.{needs}
 use Rattle.frames.proofs.fill.Statement.{statement}

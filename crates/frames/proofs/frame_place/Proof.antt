@@ -3,7 +3,7 @@
 use mathlib.Core.Path.{ap, _∙_}
 use denote.Ref.{now}
 use Rattle.tables.proofs.Tests.{told}
-use Rattle.detect.specs.Admissions.{admissionSays}
+use Rattle.whole.specs.Admissions.{admissionSays}
 use Rattle.frames.proofs.Fetch.{in-the-file, stand-refused, stand-is}
 use borrow.Author.Needs.{needs}
 use Rattle.frames.proofs.frame_place.Statement.{statement}

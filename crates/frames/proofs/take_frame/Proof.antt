@@ -9,7 +9,7 @@ use lib.ListN.{getD}
 use lib.Dec.{ltb}
 use Rattle.tables.specs.Lent.{Leaves}
 use Rattle.tables.proofs.Lent.{leaves-none, leaves-next, leaves-as, leaves-to}
-use Rattle.detect.specs.Admissions.{streamIn}
+use Rattle.whole.specs.Admissions.{streamIn}
 use Rattle.frames.proofs.Fetch.{byte-in-file, byte-is}
 use borrow.Author.Needs.{needs}
 use Rattle.frames.proofs.take_frame.Statement.{statement}

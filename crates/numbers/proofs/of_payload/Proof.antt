@@ -1,7 +1,7 @@
 -- `numbers::of_payload` meets its contract: a refusal or the place, in four numbers.
 -- Assumes nothing.
 use mathlib.Core.Path.{ap, _∙_, sym}
-use Rattle.detect.specs.Payload.{payloadSays}
+use Rattle.whole.specs.Payload.{payloadSays}
 use Rattle.numbers.specs.Numbers.{oneNumber}
 use borrow.Author.Needs.{needs}
 use Rattle.numbers.proofs.of_payload.Statement.{statement}

@@ -3,8 +3,8 @@
 use mathlib.Core.Path.{sym, ap, _∙_}
 use native.Mathlib.Omega.{arith}
 use Rattle.detect.specs.declared.Kind.the-variants.{Qp}
-use Rattle.detect.specs.Admissions.{admissionSays}
-use Rattle.detect.proofs.Admissions.{ds2-admitted}
+use Rattle.whole.specs.Admissions.{admissionSays}
+use Rattle.whole.proofs.Admissions.{ds2-admitted}
 use Rattle.qp.proofs.Outcome.{not-taken, taken}
 use borrow.Author.Needs.{needs}
 use Rattle.qp.proofs.demux_ds2_qp.Statement.{statement}

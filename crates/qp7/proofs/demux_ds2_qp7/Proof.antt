@@ -3,8 +3,8 @@
 use mathlib.Core.Path.{sym, ap}
 use Rattle.tables.proofs.Tests.{told}
 use Rattle.detect.specs.declared.Kind.the-variants.{Qp7}
-use Rattle.detect.specs.Admissions.{admissionSays}
-use Rattle.detect.proofs.Admissions.{ds2-admitted}
+use Rattle.whole.specs.Admissions.{admissionSays}
+use Rattle.whole.proofs.Admissions.{ds2-admitted}
 use Rattle.qp7.proofs.Outcome.{not-taken, taken}
 use borrow.Author.Needs.{needs}
 use Rattle.qp7.proofs.demux_ds2_qp7.Statement.{statement}

@@ -3,7 +3,7 @@
 use mathlib.Core.Path.{sym, ap}
 use mathlib.Core.Bool.{cond}
 use denote.Ref.{now}
-use Rattle.detect.specs.Admissions.{admissionSays}
+use Rattle.whole.specs.Admissions.{admissionSays}
 use Rattle.sp.specs.ReadLists.{dssRuns, ds2Runs}
 use Rattle.sp.proofs.Outcome.{not-taken, taken}
 use borrow.Author.Needs.{needs}

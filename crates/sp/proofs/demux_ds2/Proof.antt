@@ -3,7 +3,7 @@
 use mathlib.Core.Path.{sym, _∙_}
 use denote.Ref.{now}
 use Rattle.detect.specs.declared.Kind.the-variants.{Sp}
-use Rattle.detect.proofs.Admissions.{ds2-admitted}
+use Rattle.whole.proofs.Admissions.{ds2-admitted}
 use Rattle.sp.specs.ReadLists.{ds2Runs}
 use Rattle.sp.specs.Readings.{ds2Reading}
 use Rattle.sp.proofs.Outcome.{may-read, read-as}

@@ -3,7 +3,7 @@
 use mathlib.Core.Path.{sym, _∙_}
 use mathlib.Core.Bool.{true, false}
 use denote.Ref.{now}
-use Rattle.detect.proofs.Admissions.{sound}
+use Rattle.whole.proofs.Admissions.{sound}
 use Rattle.sp.specs.ReadLists.{dssRuns}
 use Rattle.sp.specs.Readings.{dssReading}
 use Rattle.sp.proofs.Outcome.{may-read, read-as}

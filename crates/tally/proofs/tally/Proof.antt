@@ -2,8 +2,8 @@
 -- Assumes nothing.
 use mathlib.Core.Path.{ap, sym}
 use Rattle.tables.proofs.Tests.{told}
-use Rattle.detect.specs.Admissions.{admissionSays}
-use Rattle.detect.proofs.Admissions.{sound}
+use Rattle.whole.specs.Admissions.{admissionSays}
+use Rattle.whole.proofs.Admissions.{sound}
 use Rattle.tally.proofs.Ways.{not-admitted, admitted}
 use borrow.Author.Needs.{needs}
 use Rattle.tally.proofs.tally.Statement.{statement}

@@ -3,7 +3,7 @@
 use Prim.Native.Nat.{_-_, _*_}
 use denote.Ref.{now}
 use native.Mathlib.Omega.{arith}
-use Rattle.detect.proofs.Admissions.{few-blocks}
+use Rattle.whole.proofs.Admissions.{few-blocks}
 use Rattle.qp.specs.Segments.{moved, gatheredTo}
 use Rattle.qp.proofs.Gathers.{near-within}
 use Rattle.qp.proofs.Blockwise.{Blockwise, blocks-begin, blocks-go-on}

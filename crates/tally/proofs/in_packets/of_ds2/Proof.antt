@@ -5,7 +5,7 @@ use native.Mathlib.Omega.{arith}
 use denote.Ref.{now}
 use Rattle.blocks.specs.Headers.{announcedIn}
 use Rattle.blocks.proofs.Headers.{announced-none, announced-most}
-use Rattle.detect.proofs.Admissions.{few-blocks}
+use Rattle.whole.proofs.Admissions.{few-blocks}
 use Rattle.sp.proofs.ReadLists.{ds2-packets}
 use Rattle.tally.proofs.Packetwise.{nothing-out}
 use borrow.Author.Needs.{needs}

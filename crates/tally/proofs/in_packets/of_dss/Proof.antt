@@ -3,7 +3,7 @@
 use Prim.Native.Nat.{_-_}
 use native.Mathlib.Omega.{arith}
 use Rattle.blocks.specs.Places.{streamAt}
-use Rattle.detect.proofs.Admissions.{few-blocks}
+use Rattle.whole.proofs.Admissions.{few-blocks}
 use Rattle.tally.proofs.Runwise.{Runwise, runs-begin, runs-go-on, runs-end}
 use borrow.Author.Needs.{needs}
 use Rattle.tally.proofs.in_packets.of_dss.Statement.{statement}

@@ -4,7 +4,7 @@ use Prim.Native.Nat.{_-_, _≤_}
 use mathlib.Core.Path.{refl, sym, ap}
 use native.Mathlib.Omega.{arith}
 use lib.ListN.{length}
-use Rattle.detect.proofs.Admissions.{few-blocks}
+use Rattle.whole.proofs.Admissions.{few-blocks}
 use Rattle.qp7.proofs.Gathering.{gathering-goes-on, gathering-stops}
 use Rattle.tally.proofs.Recordwise.{Tallying, tallying-begins, tallying-goes-on, told-why, tallying-ends}
 use borrow.Author.Needs.{needs}

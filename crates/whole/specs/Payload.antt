@@ -7,10 +7,10 @@ use lib.ListN.{take, drop}
 use lib.Dec.{ltb}
 use Rattle.blocks.specs.Places.{fileOf}
 use Rattle.refusals.specs.Said.{Said, answers, refusal, demand, onward}
-use Rattle.detect.specs.declared.Recording.{Recording}
-use Rattle.detect.specs.declared.PayloadAnswer.{PayloadAnswer}
-use Rattle.detect.specs.declared.PayloadAnswer.the-variants.{At, Refused}
-use Rattle.detect.specs.Admissions.{admission}
+use Rattle.whole.specs.declared.Recording.{Recording}
+use Rattle.whole.specs.declared.PayloadAnswer.{PayloadAnswer}
+use Rattle.whole.specs.declared.PayloadAnswer.the-variants.{At, Refused}
+use Rattle.whole.specs.Admissions.{admission}
 
 -- the file place of the payload of a whole block of either magic, any type
 abbrev pub placeIn : Recording → ℕ → Said ℕ

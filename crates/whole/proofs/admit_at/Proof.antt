@@ -1,10 +1,10 @@
--- `detect::whole::admit_at` meets its contract: by the ways of an admission.
+-- `whole::admit_at` meets its contract: by the ways of an admission.
 -- Assumes nothing.
 use borrow.Author.Tests.{not-true, not-false}
-use Rattle.detect.proofs.Admissions.{refused-1, refused-2, refused-3, admitted}
+use Rattle.whole.proofs.Admissions.{refused-1, refused-2, refused-3, admitted}
 use borrow.Author.Needs.{needs}
-use Rattle.detect.proofs.whole.admit_at.Statement.{statement}
-use Rattle.detect.proofs.whole.admit_at.Tie as tie
+use Rattle.whole.proofs.admit_at.Statement.{statement}
+use Rattle.whole.proofs.admit_at.Tie as tie
 
 magic-requires : tie.Need-magic-requires
 magic-requires c κs = search needs

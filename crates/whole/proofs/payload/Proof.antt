@@ -1,15 +1,15 @@
--- `detect::whole::payload` meets its contract: by the ways of a request; the part is that of the block.
+-- `whole::payload` meets its contract: by the ways of a request; the part is that of the block.
 -- Assumes nothing.
-use Rattle.detect.proofs.Payload.{place-refused, place-absent, block-there, shown-part, shown-none}
+use Rattle.whole.proofs.Payloads.{place-refused, place-absent, block-there, shown-part, shown-none}
 use mathlib.Core.Path.{_≡_, ap, _∙_}
 use mathlib.Core.Bool.{true}
 use denote.Ref.{now}
 use Rattle.tables.proofs.Tests.{told}
 use Rattle.refusals.specs.Said.{answers}
-use Rattle.detect.specs.Admissions.{admission, admissionSays}
+use Rattle.whole.specs.Admissions.{admission, admissionSays}
 use borrow.Author.Needs.{needs}
-use Rattle.detect.proofs.whole.payload.Statement.{statement}
-use Rattle.detect.proofs.whole.payload.Tie as tie
+use Rattle.whole.proofs.payload.Statement.{statement}
+use Rattle.whole.proofs.payload.Tie as tie
 
 -- the recording that was taken
 taken : (c : tie.After-known-told) → answers (c .before .asked .given .0 .0) ≡ admission (now (c .before .before .before .before .before .args .file)) true true

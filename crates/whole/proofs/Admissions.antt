@@ -15,16 +15,16 @@ use Rattle.blocks.specs.Places.{limit, wholeBlocks}
 use Rattle.refusals.specs.declared.Refusal.{Refusal}
 use Rattle.refusals.specs.Said.{Said, answers, refuses, demand, refusal}
 use Rattle.refusals.proofs.Said.{passed, not-both, went-on}
 use Rattle.detect.specs.declared.Kind.{Kind}
 use Rattle.detect.specs.Kinds.{formatType, kindOf, readAs}
 use Rattle.detect.specs.declared.Kind.the-variants.{Sp}
 use Rattle.detect.proofs.Types.{type-none}
 use Rattle.magic.specs.declared.Magic.{Magic}
 use Rattle.magic.specs.declared.Magic.the-variants.{Dss, Ds2, Encrypted, Grundig, Other}
-use Rattle.detect.specs.declared.Recording.{Recording}
+use Rattle.whole.specs.declared.Recording.{Recording}
 use Rattle.magic.specs.Magics.{magicOf}
 use Rattle.detect.specs.Start.{audioStart}
-use Rattle.detect.specs.Admissions.{recordingAt, admissionAt, admissionBy, admission, typeIn, ofKind, ds2Admission, Sound}
+use Rattle.whole.specs.Admissions.{recordingAt, admissionAt, admissionBy, admission, typeIn, ofKind, ds2Admission, Sound}
 
 -- the ways of an admission
 module _ (f : List ℕ) (takes : Bool) (a : ℕ) where

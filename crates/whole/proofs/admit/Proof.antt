@@ -1,14 +1,14 @@
--- `detect::whole::admit` meets its contract: by the magic, each arm being that case of the definition.
+-- `whole::admit` meets its contract: by the magic, each arm being that case of the definition.
 -- Assumes nothing.
 use Prim.Native.Nat.{ℕ}
 use mathlib.Core.Path.{ap, _∙_}
 use denote.Ref.{now}
 use Rattle.refusals.specs.Said.{demand}
-use Rattle.detect.specs.Admissions.{admissionAt}
-use Rattle.detect.proofs.Admissions.{admission-as}
+use Rattle.whole.specs.Admissions.{admissionAt}
+use Rattle.whole.proofs.Admissions.{admission-as}
 use borrow.Author.Needs.{needs}
-use Rattle.detect.proofs.whole.admit.Statement.{statement}
-use Rattle.detect.proofs.whole.admit.Tie as tie
+use Rattle.whole.proofs.admit.Statement.{statement}
+use Rattle.whole.proofs.admit.Tie as tie
 
 magic-of-requires : tie.Need-magic-of-requires
 magic-of-requires c κs = search needs

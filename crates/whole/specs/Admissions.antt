@@ -10,13 +10,13 @@ use Rattle.blocks.specs.Places.{limit, wholeBlocks, Whole, streamAt}
 use Rattle.refusals.specs.Said.{Said, answers, refuses, refusal, demand, onward}
 use Rattle.magic.specs.declared.Magic.{Magic}
 use Rattle.magic.specs.declared.Magic.the-variants.{Dss, Ds2, Encrypted, Grundig, Other}
-use Rattle.detect.specs.declared.Recording.{Recording}
-use Rattle.detect.specs.declared.Admission.{Admission}
-use Rattle.detect.specs.declared.Admission.the-variants.{Admitted, Refused}
+use Rattle.whole.specs.declared.Recording.{Recording}
+use Rattle.whole.specs.declared.Admission.{Admission}
+use Rattle.whole.specs.declared.Admission.the-variants.{Admitted, Refused}
 use Rattle.blocks.specs.Headers.{announcedIn}
 use Rattle.detect.specs.Start.{audioStart}
 use Rattle.detect.specs.Kinds.{formatType, readAs}
 use Rattle.detect.specs.declared.Kind.{Kind}
 use Rattle.magic.specs.Magics.{magicOf}
 
 -- the recording whose audio starts at a

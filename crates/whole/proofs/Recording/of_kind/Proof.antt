@@ -1,11 +1,11 @@
--- `detect::Recording::of_kind` meets its contract: by the ways of such an admission.
+-- `whole::Recording::of_kind` meets its contract: by the ways of such an admission.
 -- Assumes nothing.
 use mathlib.Core.Path.{sym, _∙_}
 use denote.Ref.{now}
-use Rattle.detect.proofs.Admissions.{of-that-kind, of-another}
+use Rattle.whole.proofs.Admissions.{of-that-kind, of-another}
 use borrow.Author.Needs.{needs}
-use Rattle.detect.proofs.Recording.of_kind.Statement.{statement}
-use Rattle.detect.proofs.Recording.of_kind.Tie as tie
+use Rattle.whole.proofs.Recording.of_kind.Statement.{statement}
+use Rattle.whole.proofs.Recording.of_kind.Tie as tie
 
 format-type-requires : tie.Need-format-type-requires
 format-type-requires c κs = search needs

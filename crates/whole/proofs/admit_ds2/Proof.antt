@@ -1,13 +1,13 @@
--- `detect::whole::admit_ds2` meets its contract: a refusal is passed on, a recording goes on to its type.
+-- `whole::admit_ds2` meets its contract: a refusal is passed on, a recording goes on to its type.
 -- Assumes nothing.
 use mathlib.Core.Path.{ap, _∙_}
 use denote.Ref.{now}
 use Rattle.tables.proofs.Tests.{told}
-use Rattle.detect.specs.Admissions.{admissionSays}
-use Rattle.detect.proofs.Admissions.{ds2-refused, ds2-goes-on}
+use Rattle.whole.specs.Admissions.{admissionSays}
+use Rattle.whole.proofs.Admissions.{ds2-refused, ds2-goes-on}
 use borrow.Author.Needs.{needs}
-use Rattle.detect.proofs.whole.admit_ds2.Statement.{statement}
-use Rattle.detect.proofs.whole.admit_ds2.Tie as tie
+use Rattle.whole.proofs.admit_ds2.Statement.{statement}
+use Rattle.whole.proofs.admit_ds2.Tie as tie
 
 admit-requires : tie.Need-admit-requires
 admit-requires c κs = search needs

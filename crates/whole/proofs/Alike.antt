@@ -13,10 +13,10 @@ use Rattle.blocks.specs.Places.{wholeBlocks}
 use Rattle.blocks.proofs.Alike.{AlikeFrom, header-alike}
 use Rattle.magic.specs.declared.Magic.the-variants.{Other}
 use Rattle.magic.specs.Magics.{spells, dssBy, ds2By, encBy, magicOf}
 use Rattle.detect.specs.declared.Kind.{Kind}
 use Rattle.detect.specs.Start.{audioStart}
 use Rattle.detect.specs.Kinds.{firstType, formatType}
-use Rattle.detect.specs.Admissions.{admissionAt, admissionBy, admission, ofKind}
+use Rattle.whole.specs.Admissions.{admissionAt, admissionBy, admission, ofKind}
 
 -- after the first byte two files that differ only in it are alike
 pub after-first : (x y : ℕ) (rest : List ℕ) (a : ℕ) → 1 ≤ a → AlikeFrom a (x ∷ rest) (y ∷ rest)

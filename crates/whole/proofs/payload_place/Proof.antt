@@ -1,16 +1,16 @@
--- `detect::whole::payload_place` meets its contract: by the ways of a request.
+-- `whole::payload_place` meets its contract: by the ways of a request.
 -- Assumes nothing.
-use Rattle.detect.proofs.Payload.{place-refused, place-absent, place-at, block-there}
+use Rattle.whole.proofs.Payloads.{place-refused, place-absent, place-at, block-there}
 use mathlib.Core.Path.{_≡_, ap, _∙_}
 use mathlib.Core.Bool.{true}
 use denote.Ref.{now}
 use native.Mathlib.Omega.{arith}
 use Rattle.tables.proofs.Tests.{told}
 use Rattle.refusals.specs.Said.{answers}
-use Rattle.detect.specs.Admissions.{admission, admissionSays}
+use Rattle.whole.specs.Admissions.{admission, admissionSays}
 use borrow.Author.Needs.{needs}
-use Rattle.detect.proofs.whole.payload_place.Statement.{statement}
-use Rattle.detect.proofs.whole.payload_place.Tie as tie
+use Rattle.whole.proofs.payload_place.Statement.{statement}
+use Rattle.whole.proofs.payload_place.Tie as tie
 
 -- the recording that was taken
 taken : (c : tie.After-known-told2) → answers (c .before .admission2 .given .0 .0) ≡ admission (now (c .before .before .before .before .before .args .file)) true true

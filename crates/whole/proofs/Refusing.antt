@@ -12,10 +12,10 @@ use Rattle.refusals.proofs.Numbered.{answered, refused, asked, goes-on}
 use Rattle.magic.specs.declared.Magic.{Magic}
 use Rattle.magic.specs.declared.Magic.the-variants.{Dss, Ds2, Encrypted, Grundig, Other}
 use Rattle.magic.specs.Magics.{magicOf}
 use Rattle.detect.specs.declared.Kind.{Kind}
 use Rattle.detect.specs.Start.{audioStart}
 use Rattle.detect.specs.Kinds.{readAs}
-use Rattle.detect.specs.Admissions.{admissionAt, admissionBy, admission, typeIn, ofKind, ds2Admission}
+use Rattle.whole.specs.Admissions.{admissionAt, admissionBy, admission, typeIn, ofKind, ds2Admission}
 
 module _ {most : ℕ} (f : List ℕ) (dss ds2 : Bool) (high : 3 ≤ most) where
   at-start : (a : ℕ) → Numbered most (admissionAt f a)

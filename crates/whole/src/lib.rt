@@ -1,14 +1,11 @@
-// What every whole call asks first, and a block's payload on request. Rests on the rest of this crate, on blocks, on magic and
-// on refusals.
-use crate::Admission;
-use crate::Kind;
-use crate::PayloadAnswer;
-use crate::Recording;
+// What every whole call asks first: whether it takes a file, where that file's audio starts and how many blocks follow. And a block's payload
+// on request. Rests on detect, for the start and the type, on blocks, magic, refusals and tables.
 use blocks::BLOCK;
 use blocks::FilePlace;
 use blocks::LIMIT;
 use blocks::PAYLOAD;
 use blocks::StreamPlace;
+use detect::Kind;
 use magic::Magic;
 use refusals::Refusal;
 ghost use mathlib.Core.Path.{_≡_};
@@ -16,8 +13,25 @@ ghost use Prim.Native.Nat.{_*_, _≤_};
 ghost use lib.ListN.{getD};
 ghost use Rattle.blocks.specs.Places.{Whole};
 ghost use Rattle.refusals.specs.Said.{demand};
-ghost use Rattle.detect.specs.Admissions.{admissionAt, admission, admissionSays, typeIn, announcedBy, ofKind, ds2Admission};
-ghost use Rattle.detect.specs.Payload.{payloadPlace, payloadSays, payloadShown};
+ghost use Rattle.whole.specs.Admissions.{admissionAt, admission, admissionSays, typeIn, announcedBy, ofKind, ds2Admission};
+ghost use Rattle.whole.specs.Payload.{payloadPlace, payloadSays, payloadShown};
+
+// A file that a whole call takes: where its audio starts, and how many whole blocks follow.
+pub struct Recording {
+    pub start: FilePlace,
+    pub blocks: usize,
+}
+
+pub enum Admission {
+    Admitted(Recording),
+    Refused(Refusal),
+}
+
+// Where in the file a block's payload stands.
+pub enum PayloadAnswer {
+    At(FilePlace),
+    Refused(Refusal),
+}
 
 // A file whose audio starts there: the magic is one that the call takes, the limit, the header whole.
 fn admit_at(file: &[u8], takes: bool, start: FilePlace) -> Admission
@@ -51,7 +65,7 @@ pub fn admit(file: &[u8], dss: bool, ds2: bool) -> Admission
     let magic = magic::magic_of(file);
     match magic {
         Magic::Dss => admit_at(file, dss, dss_audio_start(file)),
-        Magic::Ds2 => admit_at(file, ds2, crate::ds2::detect_ds2_audio_start(file)),
+        Magic::Ds2 => admit_at(file, ds2, detect::ds2::detect_ds2_audio_start(file)),
         Magic::Encrypted => Admission::Refused(Refusal::magic()),
         Magic::Grundig => Admission::Refused(Refusal::magic()),
         Magic::Other => Admission::Refused(Refusal::magic()),
@@ -64,7 +78,7 @@ impl Recording {
         ensures { λ r. ⌜ r ≡ typeIn (now (file .entry)) self ⌝ }
     {
         let start = self.start;
-        crate::ds2::detect_ds2_format_type(file, start)
+        detect::ds2::detect_ds2_format_type(file, start)
     }
 
     // For the crates above. How many frames the recording announces.
@@ -82,7 +96,7 @@ impl Recording {
         ensures { λ r. ⌜ admissionSays r ≡ ofKind (now (file .entry)) kind self ⌝ }
     {
         let byte = self.format_type(file);
-        if crate::ds2::is_read_as(byte, kind) {
+        if detect::ds2::is_read_as(byte, kind) {
             return Admission::Admitted(self);
         }
         Admission::Refused(Refusal::other_kind(byte))

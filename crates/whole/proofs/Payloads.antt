@@ -13,10 +13,10 @@ use Rattle.refusals.proofs.Said.{went-on, passed}
 use Rattle.blocks.proofs.Stream.{payload-long}
 use Rattle.blocks.specs.Places.{Whole, fileOf, payloadOf}
 use Rattle.refusals.specs.Said.{answers, refuses, refusal}
-use Rattle.detect.specs.declared.Recording.{Recording}
-use Rattle.detect.specs.Admissions.{admission}
-use Rattle.detect.proofs.Admissions.{sound}
-use Rattle.detect.specs.Payload.{payloadPlace, payloadShown, placeIn}
+use Rattle.whole.specs.declared.Recording.{Recording}
+use Rattle.whole.specs.Admissions.{admission}
+use Rattle.whole.proofs.Admissions.{sound}
+use Rattle.whole.specs.Payload.{payloadPlace, payloadShown, placeIn}
 
 -- the ways of a request
 module _ (f : List ℕ) (block : ℕ) where
