@@ -46,6 +46,17 @@ held-dropped {s} {long} {base} {hold} by held next hold′ holds all there dropp
     ∙ held-at holds (by + i)
     ∙ ap s place)
 
+-- the block's payload is the stream's
+pub payload-is : (f : List ℕ) (a b : ℕ) (source : List ℕ) (at : ℕ) → ((i : ℕ) → i < 512 → getD source (at + i) 0 ≡ getD f (blockAt a b + i) 0)
+    → (k : ℕ) → k < 506 → getD source (at + 6 + k) 0 ≡ streamAt f a (b + 1) (506 * b + k)
+payload-is f a b source at block k h =
+    let byte : at + 6 + k ≡ at + (6 + k) = omega arith in
+    let there : blockAt a b + (6 + k) ≡ fileOf a (506 * b + k) = omega arith in
+    ap (λ (j : ℕ). getD source j 0) byte
+    ∙ block (6 + k) (omega arith)
+    ∙ ap (λ (j : ℕ). getD f j 0) there
+    ∙ sym (stream-in f a (b + 1) (506 * b + k) (omega arith))
+
 -- the block's payload stands behind what was held
 held-more : (f : List ℕ) (a b base : ℕ) (hold source : List ℕ) (at : ℕ) (hold′ : List ℕ)
     → Holds (streamAt f a b) (506 * b) base hold → base ≤ 506 * b → 506 * (b + 1) ≤ base + 12288
@@ -69,14 +80,11 @@ held-more f a b base hold source at hold′ holds begun fits block put =
         (λ in-block.
         let k : ℕ = base + i - 506 * b in
         let place : i ≡ 506 * b - base + k = omega arith in
-        let byte : at + 6 + k ≡ at + (6 + k) = omega arith in
-        let there : blockAt a b + (6 + k) ≡ fileOf a (base + i) = omega arith in
+        let there : 506 * b + k ≡ base + i = omega arith in
         ap (λ (j : ℕ). getD hold′ j 0) place
         ∙ put .new k (omega arith)
-        ∙ ap (λ (j : ℕ). getD source j 0) byte
-        ∙ block (6 + k) (omega arith)
-        ∙ ap (λ (j : ℕ). getD f j 0) there
-        ∙ sym (stream-in f a (b + 1) (base + i) in-block))
+        ∙ payload-is f a b source at block k (omega arith)
+        ∙ ap (streamAt f a (b + 1)) there)
         (λ past. put .high i (omega arith) ∙ held-at holds i ∙ holds .past (base + i) new ∙ sym (stream-past f a (b + 1) (base + i) past)))
 
 module _ {dss : Bool} {b number : ℕ} {hold waiting : List ℕ} {was : Standing} {source : List ℕ} {at o c : ℕ}
@@ -97,17 +105,14 @@ module _ {dss : Bool} {b number : ℕ} {hold waiting : List ℕ} {was : Standing
   next : Whole (g .f) (g .a) (b + 1)
   next = omega (arith, g .whole, g .there)
 
+  -- the block begins with its header's byte 0
+  pub byte-0 : getD source at 0 ≡ headerByte (g .f) (g .a) b 0
+  byte-0 = let front : at ≡ at + 0 = omega arith in ap (λ (i : ℕ). getD source i 0) front ∙ g .block-is 0 (omega arith)
+
   -- byte 0 of the first block is known, or is this block's
   pub first-now : (first : ℕ) → first ≡ cond (eqb b 0) (getD source at 0) (was .first) → first ≡ headerByte (g .f) (g .a) 0 0
   first-now first is =
-      by-equal b 0
-      (λ e.
-      let front : at ≡ at + 0 = omega arith in
-      let place : blockAt (g .a) b + 0 ≡ blockAt (g .a) 0 + 0 = omega arith in
-      simp (eq-eqb b 0 e) at is
-      ∙ ap (λ (i : ℕ). getD source i 0) front
-      ∙ g .block-is 0 (omega arith)
-      ∙ ap (λ (i : ℕ). getD (g .f) i 0) place)
+      by-equal b 0 (λ e. simp (eq-eqb b 0 e) at is ∙ byte-0 ∙ ap (λ (k : ℕ). headerByte (g .f) (g .a) k 0) e)
       (λ e. simp (ne-eqb b 0 e) at is ∙ numbers .first-is e)
 
   pub announced-now : was .announced + getD source (at + 2) 0 ≡ announcedIn (g .f) (g .a) (b + 1)

@@ -96,7 +96,7 @@ unfolding waitingAt
 dss-waits f a n = refl
 
 -- what has left stays read
-still-read : (f : List ℕ) (a b i : ℕ) → i < front f a b → readIn f a (b + 1) i ≡ true
+pub still-read : (f : List ℕ) (a b i : ℕ) → i < front f a b → readIn f a (b + 1) i ≡ true
 still-read f a b i h =
     le-leb (endsAt (dssRun f a i)) (506 * (b + 1))
     (omega (arith, leb-true (endsAt (dssRun f a i)) (506 * b) (front-leads f a b .before i h)))

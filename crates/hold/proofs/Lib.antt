@@ -16,4 +16,5 @@ pub mod Numbers
 pub mod Adding
 pub mod Ds2Block
 pub mod DssBlock
+pub mod Passing
 pub mod Owing

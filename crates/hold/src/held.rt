@@ -7,9 +7,11 @@ ghost use mathlib.Core.Path.{_≡_};
 ghost use Prim.Native.Nat.{ℕ, _+_, _*_, _≤_, _<_, _^_};
 ghost use lib.ListN.{length, getD};
 ghost use Rattle.tables.specs.Table.{table};
-ghost use Rattle.packets.specs.Packet.{readSize, IsPacket};
+ghost use Rattle.packets.specs.Packet.{readSize, packetByte, carryAfter, from, IsPacket};
+ghost use Rattle.packets.specs.Gathered.{bytesOf};
 ghost use Rattle.sp.specs.Runs.{runBegin};
 ghost use Rattle.sp.specs.Written.{RunWritten};
+ghost use Rattle.hold.specs.Ready.{endsAt};
 ghost use Rattle.hold.specs.Held.{Holds};
 
 // A read that begins here in the hold, or before, lies in it whatever its parity: 12,288 less 42.
@@ -93,6 +95,58 @@ pub fn write_held(
     while n < count {
         let packet = held_packet(hold, StreamPlace(begin), long, place, swap, carried);
         place = packet.next;
+        carried = packet.carry;
+        swap = !swap;
+        let here = number + n;
+        sp::put(packet, here, out, counts);
+        n += 1;
+    }
+    carried
+}
+
+// The packet of a read that lies in a source.
+fn source_packet(source: &[u8], at: usize, swap: bool, carry: u8) -> Packet
+    requires { ⌜ at + readSize swap ≤ length (now source) ⌝ }
+    ensures { λ r. ⌜ (r .bytes ≡ table 42 (packetByte swap carry (from (bytesOf (now (source .entry))) at))) × (r .count ≡ readSize swap) × (r .carry ≡ carryAfter swap carry (from (bytesOf (now (source .entry))) at)) × (r .next .0 ≡ at + readSize swap) ⌝ }
+{
+    let size = packets::read_size(swap);
+    let bytes = packets::packet_bytes(source, at, swap, carry);
+    let after = packets::carry_after(source, at, swap, carry);
+    Packet {
+        bytes,
+        count: size as u8,
+        carry: after,
+        next: StreamPlace(at + size),
+    }
+}
+
+// Hands out, as write_held does, the packets of a run whose reads all lie in one payload: 506 bytes of a source from a place on, which
+// are the stream's from a base on.
+pub fn write_through(
+    source: &[u8],
+    at: usize,
+    base: StreamPlace,
+    run: Run,
+    carry: u8,
+    number: usize,
+    out: &mut [u8],
+    counts: &mut [u8],
+) -> u8
+    requires inside { ⌜ (at + 506 ≤ length (now source)) × (base .0 ≤ run .start .0) × (endsAt run ≤ base .0 + 506) ⌝ }
+    requires near { ⌜ (run .start .0 ≤ 2 ^ 48) × (run .count ≤ 2 ^ 48) ⌝ }
+    requires room { ⌜ (42 * (number + run .count) ≤ length (now out)) × (number + run .count ≤ length (now counts)) ⌝ }
+    ensures { λ r. ⌜ ((s : ℕ → ℕ) (long : ℕ) → ((i : ℕ) → i < 506 → s (base .0 + i) ≡ getD (now (source .entry)) (at + i) 0) → base .0 + 506 ≤ long → RunWritten s long (runBegin carry run) number (run .count) (now (out .entry)) (now (out .exit)) (now (counts .entry)) (now (counts .exit)) r) ⌝ }
+{
+    let count = run.count;
+    let begin = base.0;
+    let start = run.start.0;
+    let mut place = at + (start - begin);
+    let mut swap = run.swap;
+    let mut carried = carry;
+    let mut n: usize = 0;
+    while n < count {
+        let packet = source_packet(source, place, swap, carried);
+        place = packet.next.0;
         carried = packet.carry;
         swap = !swap;
         let here = number + n;
