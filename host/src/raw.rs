@@ -11,19 +11,19 @@ const READER_SIZE: usize = 12928;
 /// `klov_answer`.
 #[repr(C)]
 #[derive(Clone, Copy)]
-struct Answer {
-    refusal: u64,
-    beside: u64,
-    first: u64,
-    second: u64,
+pub(crate) struct Answer {
+    pub(crate) refusal: u64,
+    pub(crate) beside: u64,
+    pub(crate) first: u64,
+    pub(crate) second: u64,
 }
 
 /// `klov_tallied`: a file in numbers.
 #[repr(C)]
 #[derive(Clone, Copy)]
 pub(crate) struct Tallied {
-    refusal: u64,
-    beside: u64,
+    pub(crate) refusal: u64,
+    pub(crate) beside: u64,
     pub(crate) kind: u64,
     pub(crate) start: u64,
     pub(crate) blocks: u64,
@@ -43,9 +43,9 @@ pub(crate) struct Reader {
 
 /// `klov_opened`.
 #[repr(C)]
-struct Opened {
-    answer: Answer,
-    reader: Reader,
+pub(crate) struct Opened {
+    pub(crate) answer: Answer,
+    pub(crate) reader: Reader,
 }
 
 const _: () = assert!(size_of::<Answer>() == 32 && align_of::<Answer>() == 8);
@@ -54,13 +54,13 @@ const _: () = assert!(size_of::<Reader>() == READER_SIZE && align_of::<Reader>()
 const _: () = assert!(size_of::<Opened>() == 32 + READER_SIZE && align_of::<Opened>() == 8);
 
 extern "C" {
-    fn klov_detect_format(file: *const u8, file_len: usize) -> u8;
-    fn klov_detect_ds2_audio_start(file: *const u8, file_len: usize) -> usize;
-    fn klov_detect_ds2_format_type(file: *const u8, file_len: usize, header_size: usize) -> u8;
-    fn klov_is_ds2_audio_block_header(header: *const u8, header_len: usize) -> u8;
-    fn klov_payload(file: *const u8, file_len: usize, block: usize) -> Answer;
-    fn klov_demux_dss(file: *const u8, file_len: usize, out: *mut u8, out_len: usize, counts: *mut u8, counts_len: usize) -> Answer;
-    fn klov_demux_ds2_sp(
+    pub(crate) fn klov_detect_format(file: *const u8, file_len: usize) -> u8;
+    pub(crate) fn klov_detect_ds2_audio_start(file: *const u8, file_len: usize) -> usize;
+    pub(crate) fn klov_detect_ds2_format_type(file: *const u8, file_len: usize, header_size: usize) -> u8;
+    pub(crate) fn klov_is_ds2_audio_block_header(header: *const u8, header_len: usize) -> u8;
+    pub(crate) fn klov_payload(file: *const u8, file_len: usize, block: usize) -> Answer;
+    pub(crate) fn klov_demux_dss(file: *const u8, file_len: usize, out: *mut u8, out_len: usize, counts: *mut u8, counts_len: usize) -> Answer;
+    pub(crate) fn klov_demux_ds2_sp(
         file: *const u8,
         file_len: usize,
         out: *mut u8,
@@ -68,8 +68,8 @@ extern "C" {
         counts: *mut u8,
         counts_len: usize,
     ) -> Answer;
-    fn klov_demux_ds2_qp(file: *const u8, file_len: usize, table: *mut u32, table_len: usize) -> Answer;
-    fn klov_demux_ds2_qp7(
+    pub(crate) fn klov_demux_ds2_qp(file: *const u8, file_len: usize, table: *mut u32, table_len: usize) -> Answer;
+    pub(crate) fn klov_demux_ds2_qp7(
         file: *const u8,
         file_len: usize,
         records: *mut u32,
@@ -77,8 +77,8 @@ extern "C" {
         segments: *mut u32,
         segments_len: usize,
     ) -> Answer;
-    fn klov_frame(start: u64, length: u64, k: u64) -> Answer;
-    fn klov_fetch(
+    pub(crate) fn klov_frame(start: u64, length: u64, k: u64) -> Answer;
+    pub(crate) fn klov_fetch(
         file: *const u8,
         file_len: usize,
         stream_place: usize,
@@ -86,7 +86,7 @@ extern "C" {
         scratch: *mut u8,
         scratch_len: usize,
     ) -> Answer;
-    fn klov_show(
+    pub(crate) fn klov_show(
         file: *const u8,
         file_len: usize,
         stream_place: usize,
@@ -94,9 +94,9 @@ extern "C" {
         scratch: *const u8,
         scratch_len: usize,
     ) -> Answer;
-    fn klov_tally(file: *const u8, file_len: usize) -> Tallied;
-    fn klov_open(kind: u64) -> Opened;
-    fn klov_piece(
+    pub(crate) fn klov_tally(file: *const u8, file_len: usize) -> Tallied;
+    pub(crate) fn klov_open(kind: u64) -> Opened;
+    pub(crate) fn klov_piece(
         reader: *mut Reader,
         src: *const u8,
         src_len: usize,
@@ -105,8 +105,8 @@ extern "C" {
         counts: *mut u8,
         counts_len: usize,
     ) -> Answer;
-    fn klov_strict_end(reader: *mut Reader) -> Answer;
-    fn klov_lenient_end(reader: *mut Reader, out: *mut u8, out_len: usize, counts: *mut u8, counts_len: usize) -> Answer;
+    pub(crate) fn klov_strict_end(reader: *mut Reader) -> Answer;
+    pub(crate) fn klov_lenient_end(reader: *mut Reader, out: *mut u8, out_len: usize, counts: *mut u8, counts_len: usize) -> Answer;
 }
 
 fn accepted<T>(refusal: u64, beside: u64, answer: T) -> Result<T> {

@@ -17,7 +17,7 @@ pub enum Kind {
 /// One read and its packet.
 #[derive(Debug, Clone, PartialEq, Eq)]
 pub struct Packet {
-    pub bytes: Vec<u8>,
+    pub bytes: [u8; 42],
     /// How many bytes of the read came from the stream, and how many it takes.
     pub count: usize,
     pub size: usize,
@@ -120,8 +120,17 @@ pub fn kind(file: &[u8]) -> Answer<(Kind, usize)> {
     Ok((kind, start))
 }
 
+/// The same for a call that reads DSS only, or DS2 only.
+pub fn kind_for(file: &[u8], dss: bool) -> Answer<(Kind, usize)> {
+    if matches!(file.get(..4), Some(b"\x02dss" | b"\x03dss")) == dss {
+        kind(file)
+    } else {
+        Err((1, 0))
+    }
+}
+
 pub fn stream(file: &[u8], start: usize) -> Vec<u8> {
-    blocks(file, start).iter().flat_map(|block| block[6..].to_vec()).collect()
+    blocks(file, start).iter().map(|block| &block[6..]).collect::<Vec<_>>().concat()
 }
 
 pub fn announced(file: &[u8], start: usize) -> usize {
@@ -162,20 +171,23 @@ fn reads(file: &[u8], kind: Kind, start: usize) -> Vec<Vec<(usize, bool)>> {
 
 /// One packet from the bytes that its read found, and the carried byte afterwards.
 pub fn packet(found: &[u8], swapped: bool, carry: u8) -> (Packet, u8) {
-    let mut read = found.to_vec();
-    read.resize(size(swapped), 0);
-    let (count, size) = (found.len(), read.len());
+    let mut read = [0; 42];
+    read[..found.len()].copy_from_slice(found);
+    let (count, size) = (found.len(), size(swapped));
     if !swapped {
         let carried = std::mem::replace(&mut read[40], 0);
         return (Packet { bytes: read, count, size }, carried);
     }
-    let bytes = (0..42).map(|i| match i {
-        1 => carry,
-        40 => 0,
-        _ if i % 2 == 0 => read[i + 1],
-        _ => read[i - 3],
-    });
-    (Packet { bytes: bytes.collect(), count, size }, carry)
+    let mut bytes = [0; 42];
+    for (i, byte) in bytes.iter_mut().enumerate() {
+        *byte = match i {
+            1 => carry,
+            40 => 0,
+            _ if i % 2 == 0 => read[i + 1],
+            _ => read[i - 3],
+        };
+    }
+    (Packet { bytes, count, size }, carry)
 }
 
 /// All packets of an SP recording.
@@ -204,17 +216,17 @@ pub fn ready(file: &[u8], kind: Kind, start: usize) -> usize {
     }
 }
 
-/// Whether a DS2 reader's hold overflows at some block of these bytes: unread bytes over 12,288 just after it is added.
-pub fn overflows(file: &[u8]) -> bool {
+/// How many whole blocks of these bytes a DS2 reader takes: up to the one that would leave over 12,288 unread bytes as it is added.
+pub fn taken_blocks(file: &[u8]) -> usize {
     let mut owed = 0;
     let mut unread = 0;
     let mut swapped = None;
-    for block in blocks(file, 0x600) {
+    for (number, block) in blocks(file, 0x600).iter().enumerate() {
         let mut parity = swapped.unwrap_or(block[0] & 0x80 != 0);
         owed += usize::from(block[2]);
         unread += 506;
         if unread > 12_288 {
-            return true;
+            return number;
         }
         while owed > 0 && unread >= size(parity) {
             owed -= 1;
@@ -223,17 +235,59 @@ pub fn overflows(file: &[u8]) -> bool {
         }
         swapped = Some(parity);
     }
-    false
+    whole_blocks(file.len(), 0x600)
+}
+
+/// Whether a DS2 reader's hold overflows at some block of these bytes.
+pub fn overflows(file: &[u8]) -> bool {
+    taken_blocks(file) < whole_blocks(file.len(), 0x600)
+}
+
+/// What a reader has been told and has handed out once it has so many whole blocks, from none to all of them.
+pub struct Steps {
+    pub announced: Vec<usize>,
+    pub ready: Vec<usize>,
+}
+
+pub fn steps(file: &[u8], kind: Kind, start: usize) -> Steps {
+    let reads = reads(file, kind, start);
+    let mut announced = vec![0];
+    announced.extend(reads.iter().scan(0, |sum, of_block| {
+        *sum += of_block.len();
+        Some(*sum)
+    }));
+    let ends = |of_block: &[(usize, bool)]| of_block.iter().map(|&(place, swapped)| place + size(swapped)).collect::<Vec<_>>();
+    // For each packet the number of whole blocks at which it comes out, DSS's all at once for a block.
+    let mut out_at = Vec::new();
+    let mut last = 0;
+    for (number, of_block) in reads.iter().enumerate() {
+        let ends = ends(of_block);
+        for &end in &ends {
+            let end = if kind == Kind::DssSp { ends[ends.len() - 1] } else { end };
+            last = last.max(number + 1).max((end + 505) / 506);
+            out_at.push(last);
+        }
+    }
+    let mut ready = Vec::new();
+    let mut out = 0;
+    for whole in 0..announced.len() {
+        while out < out_at.len() && out_at[out] <= whole {
+            out += 1;
+        }
+        ready.push(out);
+    }
+    Steps { announced, ready }
 }
 
 /// Where the two readings of a DSS recording, whole and in pieces, agree in the original: every announcing block's reads end at or
 /// before the next one's start, and on a multiple of 506 only if no later block announces.
 pub fn dss_pieces_agree(file: &[u8]) -> bool {
-    let (kind, start) = match kind(file) {
-        Ok(told) => told,
-        Err(_) => return false,
-    };
-    let reads: Vec<_> = reads(file, kind, start).into_iter().filter(|of_block| !of_block.is_empty()).collect();
+    matches!(kind(file), Ok((Kind::DssSp, start)) if dss_pieces_agree_from(file, start))
+}
+
+/// The same of any bytes that a DSS reader is given, its header ending there.
+pub fn dss_pieces_agree_from(file: &[u8], start: usize) -> bool {
+    let reads: Vec<_> = reads(file, Kind::DssSp, start).into_iter().filter(|of_block| !of_block.is_empty()).collect();
     reads.windows(2).all(|pair| {
         let &(place, swapped) = pair[0].last().expect("it announces");
         let end = place + size(swapped);
@@ -313,4 +367,37 @@ pub fn qp7_records(file: &[u8], start: usize) -> Answer<Vec<Vec<u8>>> {
     let stream = stream(file, start);
     let records = qp7(file, start)?.into_iter().flat_map(|segment| segment.records);
     Ok(records.map(|(place, size)| stream[place..place + size].to_vec()).collect())
+}
+
+/// `size` bytes of a DS2 file's payload stream: None if they cross a block, else the file place where they stand.
+pub fn fetch(file: &[u8], place: usize, size: usize, scratch: usize) -> Answer<Option<usize>> {
+    let (_, start) = kind_for(file, false)?;
+    let end = 506 * whole_blocks(file.len(), start);
+    if size == 0 || size > 56 || scratch < 56 || place > end || size > end - place {
+        return Err((12, 0));
+    }
+    Ok((place % 506 + size <= 506).then_some(start + place / 506 * 512 + 6 + place % 506))
+}
+
+/// Frame `k` of a segment that has `length` bytes from `start` on: place and size, or 0 and 0.
+pub fn frame(start: u64, length: u64, k: u64) -> (u64, u64) {
+    let (start, length, before) = (u128::from(start), u128::from(length), 56 * u128::from(k));
+    if before >= length || start + before > u128::from(u64::MAX) {
+        return (0, 0);
+    }
+    ((start + before) as u64, (length - before).min(56) as u64)
+}
+
+/// A file in numbers: kind, start, blocks, announced, handed out, short, and the file's bytes that those have.
+pub fn tally(file: &[u8]) -> Answer<[u64; 7]> {
+    let (kind, start) = kind(file)?;
+    let sizes: Vec<(usize, usize)> = match kind {
+        Kind::DssSp | Kind::Ds2Sp => packets(file, kind, start).iter().map(|packet| (packet.count, packet.size)).collect(),
+        Kind::Qp => qp_frames(file, start).iter().map(|frame| (frame.len(), 56)).collect(),
+        Kind::Qp7 => qp7_records(file, start)?.iter().map(|record| (record.len(), record.len())).collect(),
+    };
+    let short = sizes.iter().filter(|(count, size)| count < size).count();
+    let bytes = sizes.iter().map(|(count, _)| count).sum();
+    let blocks = whole_blocks(file.len(), start);
+    Ok([kind as usize, start, blocks, announced(file, start), sizes.len(), short, bytes].map(|number| number as u64))
 }

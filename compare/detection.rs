@@ -1,0 +1,36 @@
+// The four detection calls, which take anything and refuse nothing. It rests on the original alone; the model's format is looked at too.
+use crate::common::files::Dice;
+use crate::common::model;
+use crate::ours;
+use crate::score::Score;
+
+/// The number of a format in the C calls.
+fn number(format: Option<original::AudioFormat>) -> u8 {
+    use original::AudioFormat::*;
+    match format {
+        None => 0,
+        Some(DssSp) => 1,
+        Some(Ds2Sp) => 2,
+        Some(Ds2Qp) => 3,
+        Some(Ds2Qp7) => 4,
+        Some(GrundigSp) => 5,
+    }
+}
+
+pub fn compare(file: &[u8], dice: &mut Dice, score: &mut Score) {
+    let format = original::detect_format(file);
+    score.original("detect_format", number(format), ours::detect_format(file));
+    score.model("detect_format", model::format(file).map(str::to_string), format.map(|format| format!("{format:?}")));
+    let start = original::detect_ds2_audio_start(file);
+    score.original("detect_ds2_audio_start", start, ours::detect_ds2_audio_start(file));
+    // Of sizes beyond the file's length there are many, and one answer.
+    for size in [0, start, file.len(), dice.below(9000), 512 * dice.below(9), usize::MAX - dice.below(2000)] {
+        let kind = original::detect_ds2_format_type(file, size);
+        score.original("detect_ds2_format_type", kind, ours::detect_ds2_format_type(file, size));
+    }
+    let place = dice.below(file.len() + 1) / 512 * 512;
+    for part in [&file[place..(place + dice.below(9)).min(file.len())], &file[file.len().min(start)..file.len().min(start + 6)]] {
+        let good = original::is_ds2_audio_block_header(part);
+        score.original("is_ds2_audio_block_header", u8::from(good), ours::is_ds2_audio_block_header(part));
+    }
+}

@@ -1,0 +1,138 @@
+// The ends of a reading in pieces: strict and lenient, beside the original's, the lenient one also in parts; a reader that drains, one that has
+// ended, and one that was never opened. Where the original has no such state, the answers are the description's.
+use crate::common::files::Dice;
+use crate::differences::Name;
+use crate::ours::{Numbers, Reader};
+use crate::pieces::{asked, in_header, Run, Seen};
+use crate::score::Score;
+use crate::whole_sp::ample;
+
+pub fn all(run: &mut Run, dice: &mut Dice, score: &mut Score) {
+    strict(run, dice, score);
+    lenient(run, dice, score);
+    drain(run, dice, score);
+}
+
+fn inside_header(run: &Run) -> bool {
+    (1..run.start).contains(&run.given)
+}
+
+/// What the strict end answers now, by the description.
+fn strict_numbers(run: &Run) -> Numbers {
+    let (cut, owed) = (run.given.saturating_sub(run.start) % 512, run.owed() as u64);
+    match cut as u64 {
+        _ if inside_header(run) => in_header(run.start),
+        0 if owed == 0 => [0; 4],
+        0 => [14, owed, 0, owed],
+        cut => [13, cut, 0, owed],
+    }
+}
+
+/// The strict end of a copy: an error of the original's and a refusal with the same number, or an end.
+pub fn strict(run: &mut Run, dice: &mut Dice, score: &mut Score) {
+    const CALL: &str = "strict_end";
+    let mut copy = run.reader.clone();
+    let expected = strict_numbers(run);
+    let numbers = copy.strict_end();
+    if let Some(theirs) = &mut run.theirs {
+        let theirs = theirs.finish().map_or_else(|(number, _)| (number, 0), |packets| (0, packets.len() as u64));
+        score.original(CALL, theirs, (numbers[0], numbers[2]));
+    }
+    if expected == [0; 4] {
+        score.model(CALL, expected, numbers);
+        ended(&mut copy, dice, score);
+    } else {
+        let name = if expected[0] == 3 { Name::EndInHeader } else { Name::StrictEnd };
+        score.named(name, CALL, (expected, true), (numbers, copy.bytes() == run.reader.bytes()));
+    }
+}
+
+/// The lenient end of a copy with ample room, beside the original's.
+fn lenient(run: &mut Run, dice: &mut Dice, score: &mut Score) {
+    const CALL: &str = "lenient_end";
+    let mut copy = run.reader.clone();
+    let (from, owed) = (run.handed(), run.owed());
+    let seen = Seen::of(ample(owed, dice), |out, counts| copy.lenient_end(out, counts));
+    if let Some(mut theirs) = run.theirs.take() {
+        match theirs.finish_lenient() {
+            Ok(packets) => {
+                let ours = (seen.numbers[0], seen.numbers[2], seen.out.holds(&packets.concat()));
+                score.original(CALL, (0, packets.len() as u64, true), ours);
+            }
+            Err((number, _)) => score.original(CALL, (number, 0, true), (seen.numbers[0], 0, seen.untouched())),
+        }
+    }
+    if inside_header(run) {
+        let same = copy.bytes() == run.reader.bytes();
+        score.named(Name::EndInHeader, CALL, (in_header(run.start), true, true), (seen.numbers, seen.untouched(), same));
+    } else {
+        run.hold(CALL, [0, 0, owed as u64, 0], from..from + owed, &seen, score);
+        ended(&mut copy, dice, score);
+    }
+}
+
+/// The lenient end of the reader itself in small rooms, asked again until nothing is owed.
+fn drain(run: &mut Run, dice: &mut Dice, score: &mut Score) {
+    const CALL: &str = "lenient_end";
+    if inside_header(run) {
+        return;
+    }
+    let end = run.handed() + run.owed();
+    let mut at = run.handed();
+    while at < end {
+        let most = dice.pick(&[0, 1, 2, 1 + (end - at) / 3, end - at, end - at + 2]);
+        let (out, counts) = dice.pick(&[(most, most), (most, most + 3), (most + 2, most)]);
+        let room = (42 * out + dice.pick(&[0, 41]), counts);
+        let to = end.min(at + most);
+        let seen = Seen::of(room, |out, counts| run.reader.lenient_end(out, counts));
+        let numbers = [0, 0, (to - at) as u64, (end - to) as u64];
+        if to < end {
+            let bytes = seen.out.holds(&run.expected.bytes[42 * at..42 * to]);
+            let counts = seen.counts.holds(&run.expected.counts[at..to]);
+            score.named(Name::DrainInParts, CALL, (numbers, true, true), (seen.numbers, bytes, counts));
+            draining(&mut run.reader, numbers[3], score);
+        } else {
+            run.hold(CALL, numbers, at..to, &seen, score);
+        }
+        run.gather(seen);
+        at = to;
+    }
+    if run.reader.strict_end()[0] == 6 {
+        score.wrong(CALL, "a reader drains with nothing owed");
+    }
+    let numbers = run.reader.lenient_end(&mut [], &mut []);
+    score.model(CALL, [0; 4], numbers);
+    ended(&mut run.reader, dice, score);
+}
+
+/// A reader that drains takes no piece and no strict end, and says what it owes.
+fn draining(reader: &mut Reader, owed: u64, score: &mut Score) {
+    asked(reader, [6, 0, 0, owed], Name::DrainInParts, score);
+    let before = reader.clone();
+    let numbers = reader.strict_end();
+    score.named(Name::DrainInParts, "strict_end", ([6, 0, 0, owed], true), (numbers, reader.bytes() == before.bytes()));
+}
+
+/// A reader that has ended takes no piece, and either end answers 0 packets.
+fn ended(reader: &mut Reader, dice: &mut Dice, score: &mut Score) {
+    asked(reader, [6, 0, 0, 0], Name::AfterTheEnd, score);
+    let (piece, before) = (vec![0x0F; dice.below(600)], reader.clone());
+    let seen = Seen::of(ample(2, dice), |out, counts| reader.piece(&piece, out, counts));
+    let same = reader.bytes() == before.bytes();
+    score.named(Name::AfterTheEnd, "piece", ([6, 0, 0, 0], true, true), (seen.numbers, seen.untouched(), same));
+    score.named(Name::AfterTheEnd, "strict_end", [0; 4], reader.strict_end());
+    let seen = Seen::of(ample(2, dice), |out, counts| reader.lenient_end(out, counts));
+    score.named(Name::AfterTheEnd, "lenient_end", ([0; 4], true), (seen.numbers, seen.untouched()));
+}
+
+/// A kind that there is not: refused by 10, and the reader given is an ended one.
+pub fn no_such_kind(dice: &mut Dice, score: &mut Score) {
+    let kind = match dice.below(3) {
+        0 => dice.pick(&[1, 4, 5, 255, 256, 258, u64::MAX]),
+        1 => 4 + dice.below(252) as u64,
+        _ => dice.roll() | 4,
+    };
+    let (numbers, mut reader) = Reader::open(kind);
+    score.named(Name::NoSuchKind, "open", [10, kind, 0, 0], numbers);
+    ended(&mut reader, dice, score);
+}

@@ -1,0 +1,1 @@
+pub fn compare(_s: &mut crate::score::Score) {}

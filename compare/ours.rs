@@ -1,0 +1,129 @@
+// The archive's calls over slices, each answer with all its numbers, those of a refused call too. It rests on the declarations in
+// host/src/raw.rs; all unsafe code of the program is here. A slice is never null, and two of which one is written share no byte.
+use crate::raw;
+use std::mem::size_of;
+
+/// Refusal, the number beside it, first, second.
+pub type Numbers = [u64; 4];
+
+fn numbers(answer: raw::Answer) -> Numbers {
+    [answer.refusal, answer.beside, answer.first, answer.second]
+}
+
+/// What a refused call answers, when nothing else is told with it.
+pub fn refused((number, beside): (u64, u64)) -> Numbers {
+    [number, beside, 0, 0]
+}
+
+pub fn detect_format(file: &[u8]) -> u8 {
+    unsafe { raw::klov_detect_format(file.as_ptr(), file.len()) }
+}
+
+pub fn detect_ds2_audio_start(file: &[u8]) -> usize {
+    unsafe { raw::klov_detect_ds2_audio_start(file.as_ptr(), file.len()) }
+}
+
+pub fn detect_ds2_format_type(file: &[u8], header_size: usize) -> u8 {
+    unsafe { raw::klov_detect_ds2_format_type(file.as_ptr(), file.len(), header_size) }
+}
+
+pub fn is_ds2_audio_block_header(header: &[u8]) -> u8 {
+    unsafe { raw::klov_is_ds2_audio_block_header(header.as_ptr(), header.len()) }
+}
+
+pub fn payload(file: &[u8], block: usize) -> Numbers {
+    numbers(unsafe { raw::klov_payload(file.as_ptr(), file.len(), block) })
+}
+
+pub fn demux_dss(file: &[u8], out: &mut [u8], counts: &mut [u8]) -> Numbers {
+    let (out_len, counts_len) = (out.len(), counts.len());
+    numbers(unsafe {
+        raw::klov_demux_dss(file.as_ptr(), file.len(), out.as_mut_ptr(), out_len, counts.as_mut_ptr(), counts_len)
+    })
+}
+
+pub fn demux_ds2_sp(file: &[u8], out: &mut [u8], counts: &mut [u8]) -> Numbers {
+    let (out_len, counts_len) = (out.len(), counts.len());
+    numbers(unsafe {
+        raw::klov_demux_ds2_sp(file.as_ptr(), file.len(), out.as_mut_ptr(), out_len, counts.as_mut_ptr(), counts_len)
+    })
+}
+
+pub fn demux_ds2_qp(file: &[u8], table: &mut [u32]) -> Numbers {
+    numbers(unsafe { raw::klov_demux_ds2_qp(file.as_ptr(), file.len(), table.as_mut_ptr(), table.len()) })
+}
+
+pub fn demux_ds2_qp7(file: &[u8], records: &mut [u32], segments: &mut [u32]) -> Numbers {
+    let (records_len, segments_len) = (records.len(), segments.len());
+    numbers(unsafe {
+        raw::klov_demux_ds2_qp7(
+            file.as_ptr(),
+            file.len(),
+            records.as_mut_ptr(),
+            records_len,
+            segments.as_mut_ptr(),
+            segments_len,
+        )
+    })
+}
+
+pub fn frame(start: u64, length: u64, k: u64) -> Numbers {
+    numbers(unsafe { raw::klov_frame(start, length, k) })
+}
+
+pub fn fetch(file: &[u8], place: usize, size: usize, scratch: &mut [u8]) -> Numbers {
+    numbers(unsafe { raw::klov_fetch(file.as_ptr(), file.len(), place, size, scratch.as_mut_ptr(), scratch.len()) })
+}
+
+pub fn show(file: &[u8], place: usize, size: usize, scratch: &[u8]) -> Numbers {
+    numbers(unsafe { raw::klov_show(file.as_ptr(), file.len(), place, size, scratch.as_ptr(), scratch.len()) })
+}
+
+/// Refusal, the number beside it, kind, start, blocks, announced, handed out, short, bytes.
+pub fn tally(file: &[u8]) -> [u64; 9] {
+    let told = unsafe { raw::klov_tally(file.as_ptr(), file.len()) };
+    let raw::Tallied { refusal, beside, kind, start, blocks, announced, handed, short_count, bytes } = told;
+    [refusal, beside, kind, start, blocks, announced, handed, short_count, bytes]
+}
+
+/// A reader where it stands.
+#[derive(Clone)]
+pub struct Reader(Box<raw::Reader>);
+
+impl Reader {
+    /// The reader that a refused opening gives too.
+    pub fn open(kind: u64) -> (Numbers, Reader) {
+        let raw::Opened { answer, reader } = unsafe { raw::klov_open(kind) };
+        (numbers(answer), Reader(Box::new(reader)))
+    }
+
+    /// All its bytes, what they mean being its own. They come from the archive, or from a copy of the whole.
+    pub fn bytes(&self) -> &[u8] {
+        let start: *const raw::Reader = &*self.0;
+        unsafe { std::slice::from_raw_parts(start.cast(), size_of::<raw::Reader>()) }
+    }
+
+    pub fn piece(&mut self, piece: &[u8], out: &mut [u8], counts: &mut [u8]) -> Numbers {
+        let (out_len, counts_len) = (out.len(), counts.len());
+        numbers(unsafe {
+            raw::klov_piece(
+                &mut *self.0,
+                piece.as_ptr(),
+                piece.len(),
+                out.as_mut_ptr(),
+                out_len,
+                counts.as_mut_ptr(),
+                counts_len,
+            )
+        })
+    }
+
+    pub fn strict_end(&mut self) -> Numbers {
+        numbers(unsafe { raw::klov_strict_end(&mut *self.0) })
+    }
+
+    pub fn lenient_end(&mut self, out: &mut [u8], counts: &mut [u8]) -> Numbers {
+        let (out_len, counts_len) = (out.len(), counts.len());
+        numbers(unsafe { raw::klov_lenient_end(&mut *self.0, out.as_mut_ptr(), out_len, counts.as_mut_ptr(), counts_len) })
+    }
+}

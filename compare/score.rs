@@ -1,0 +1,86 @@
+// What was compared: how often each call, with the original and with the model, how many cases each named difference had, and what is
+// unexplained. It rests on the list of names in differences.rs.
+use crate::differences::{Name, NAMES};
+use std::collections::BTreeMap;
+use std::fmt::{Debug, Display};
+
+/// Unexplained differences are told so often; further ones are counted.
+const TOLD: u64 = 20;
+
+#[derive(Default)]
+pub struct Score {
+    /// By call: comparisons with the original, and with the model.
+    calls: BTreeMap<&'static str, [u64; 2]>,
+    named: BTreeMap<Name, u64>,
+    unexplained: u64,
+    files: u64,
+    file: String,
+}
+
+impl Score {
+    /// The next file, by its seed or its name: what is printed where it differs.
+    pub fn file(&mut self, name: impl Display) {
+        use std::fmt::Write;
+        self.files += 1;
+        self.file.clear();
+        let _ = write!(self.file, "{name}");
+    }
+
+    pub fn files(&self) -> u64 {
+        self.files
+    }
+
+    /// Our answer beside the original's.
+    pub fn original<T: PartialEq + Debug>(&mut self, call: &'static str, theirs: T, ours: T) {
+        self.compare(call, 0, "the original", theirs, ours);
+    }
+
+    /// Our answer beside the model's, where the original has none.
+    pub fn model<T: PartialEq + Debug>(&mut self, call: &'static str, expected: T, ours: T) {
+        self.compare(call, 1, "the description", expected, ours);
+    }
+
+    /// A case of a named difference: our answer must be the one that the description gives there.
+    pub fn named<T: PartialEq + Debug>(&mut self, name: Name, call: &'static str, expected: T, ours: T) {
+        *self.named.entry(name).or_insert(0) += 1;
+        self.compare(call, 1, "the description", expected, ours);
+    }
+
+    /// What can only be if the original is another one than it is taken for.
+    pub fn wrong(&mut self, call: &'static str, what: &str) {
+        self.compare(call, 0, "the original", what, "");
+    }
+
+    fn compare<T: PartialEq + Debug>(&mut self, call: &'static str, column: usize, by: &str, expected: T, ours: T) {
+        self.calls.entry(call).or_insert([0; 2])[column] += 1;
+        if expected != ours {
+            self.unexplained += 1;
+            if self.unexplained <= TOLD {
+                println!("UNEXPLAINED in {}: {call}: by {by} {expected:?}, here {ours:?}", self.file);
+            }
+        }
+    }
+
+    /// Prints the tables, and answers whether all is well. Where all parts were run, every name must have had a case.
+    pub fn close(&self, all_parts: bool) -> bool {
+        println!("{:>12} {:>12}  comparisons of each call: with the original, with the description", "original", "description");
+        for (call, [original, model]) in &self.calls {
+            println!("{original:12} {model:12}  {call}");
+        }
+        println!("{:>12}  cases of each named difference", "");
+        let mut absent = 0;
+        for &(name, sentence) in NAMES {
+            let cases = *self.named.get(&name).unwrap_or(&0);
+            println!("{cases:12}  {name:?}: {sentence}");
+            absent += u64::from(cases == 0);
+        }
+        if all_parts && absent > 0 {
+            println!("{absent} names had no case");
+        }
+        let comparisons: u64 = self.calls.values().flatten().sum();
+        let named: u64 = self.named.values().sum();
+        let (files, unexplained) = (self.files, self.unexplained);
+        println!("{files} files, {comparisons} comparisons, {named} under named differences, {unexplained} unexplained");
+        unexplained == 0 && !(all_parts && absent > 0)
+    }
+}
