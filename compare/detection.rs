@@ -17,10 +17,15 @@ fn number(format: Option<original::AudioFormat>) -> u8 {
     }
 }
 
+fn by_name(format: Option<&str>) -> u8 {
+    let names = ["DssSp", "Ds2Sp", "Ds2Qp", "Ds2Qp7", "GrundigSp"];
+    format.and_then(|format| names.iter().position(|&name| name == format)).map_or(0, |at| at as u8 + 1)
+}
+
 pub fn compare(file: &[u8], dice: &mut Dice, score: &mut Score) {
-    let format = original::detect_format(file);
-    score.original("detect_format", number(format), ours::detect_format(file));
-    score.model("detect_format", model::format(file).map(str::to_string), format.map(|format| format!("{format:?}")));
+    let format = ours::detect_format(file);
+    score.original("detect_format", number(original::detect_format(file)), format);
+    score.model("detect_format", by_name(model::format(file)), format);
     let start = original::detect_ds2_audio_start(file);
     score.original("detect_ds2_audio_start", start, ours::detect_ds2_audio_start(file));
     // Of sizes beyond the file's length there are many, and one answer.

@@ -1,7 +1,8 @@
 // The differences that docs/DIFFERENCES.md lists, as far as a caller can see them, each with one sentence. At each case of one the answer
 // is held to what the format's description says of it, and counted here. It rests on that document.
 
-#[derive(Debug, Clone, Copy, PartialEq, Eq, PartialOrd, Ord)]
+/// In the order of the list below.
+#[derive(Debug, Clone, Copy)]
 pub enum Name {
     DssCutHeader,
     Ds2CutHeader,

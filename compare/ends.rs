@@ -7,10 +7,17 @@ use crate::pieces::{asked, in_header, Run, Seen};
 use crate::score::Score;
 use crate::whole_sp::ample;
 
+/// The strict end of a copy, and then the lenient end, at once or in parts.
 pub fn all(run: &mut Run, dice: &mut Dice, score: &mut Score) {
     strict(run, dice, score);
-    lenient(run, dice, score);
-    drain(run, dice, score);
+    if inside_header(run) || dice.percent(50) {
+        lenient(run, dice, score);
+    } else {
+        drain(run, dice, score);
+    }
+    if !inside_header(run) && dice.percent(25) {
+        ended(&mut run.reader, dice, score);
+    }
 }
 
 fn inside_header(run: &Run) -> bool {
@@ -40,69 +47,74 @@ pub fn strict(run: &mut Run, dice: &mut Dice, score: &mut Score) {
     }
     if expected == [0; 4] {
         score.model(CALL, expected, numbers);
-        ended(&mut copy, dice, score);
+        if dice.percent(5) {
+            ended(&mut copy, dice, score);
+        }
     } else {
         let name = if expected[0] == 3 { Name::EndInHeader } else { Name::StrictEnd };
         score.named(name, CALL, (expected, true), (numbers, copy.bytes() == run.reader.bytes()));
     }
 }
 
-/// The lenient end of a copy with ample room, beside the original's.
+/// The original's packets at its lenient end, joined, or the number of its error; None where it is not asked.
+fn theirs(run: &mut Run) -> Option<Result<Vec<u8>, u64>> {
+    let mut theirs = run.theirs.take()?;
+    Some(theirs.finish_lenient().map(|packets| packets.concat()).map_err(|(number, _)| number))
+}
+
+/// The lenient end with ample room, beside the original's.
 fn lenient(run: &mut Run, dice: &mut Dice, score: &mut Score) {
     const CALL: &str = "lenient_end";
-    let mut copy = run.reader.clone();
+    let before = inside_header(run).then(|| run.reader.clone());
     let (from, owed) = (run.handed(), run.owed());
-    let seen = Seen::of(ample(owed, dice), |out, counts| copy.lenient_end(out, counts));
-    if let Some(mut theirs) = run.theirs.take() {
-        match theirs.finish_lenient() {
-            Ok(packets) => {
-                let ours = (seen.numbers[0], seen.numbers[2], seen.out.holds(&packets.concat()));
-                score.original(CALL, (0, packets.len() as u64, true), ours);
-            }
-            Err((number, _)) => score.original(CALL, (number, 0, true), (seen.numbers[0], 0, seen.untouched())),
-        }
+    let seen = Seen::of(ample(owed, dice), |out, counts| run.reader.lenient_end(out, counts));
+    match theirs(run) {
+        Some(Ok(bytes)) => score.original(CALL, (0, bytes.len() as u64, true), {
+            (seen.numbers[0], 42 * seen.numbers[2], seen.out.holds(&bytes))
+        }),
+        Some(Err(number)) => score.original(CALL, (number, 0, true), (seen.numbers[0], seen.numbers[2], seen.untouched())),
+        None => {}
     }
-    if inside_header(run) {
-        let same = copy.bytes() == run.reader.bytes();
+    if let Some(before) = before {
+        let same = run.reader.bytes() == before.bytes();
         score.named(Name::EndInHeader, CALL, (in_header(run.start), true, true), (seen.numbers, seen.untouched(), same));
     } else {
         run.hold(CALL, [0, 0, owed as u64, 0], from..from + owed, &seen, score);
-        ended(&mut copy, dice, score);
+        run.gather(seen);
     }
 }
 
-/// The lenient end of the reader itself in small rooms, asked again until nothing is owed.
+/// The lenient end in small rooms, asked again until nothing is owed; the parts together are the original's.
 fn drain(run: &mut Run, dice: &mut Dice, score: &mut Score) {
     const CALL: &str = "lenient_end";
-    if inside_header(run) {
-        return;
-    }
-    let end = run.handed() + run.owed();
-    let mut at = run.handed();
+    let (before, mut at) = (run.joined.len(), run.handed());
+    let end = at + run.owed();
     while at < end {
-        let most = dice.pick(&[0, 1, 2, 1 + (end - at) / 3, end - at, end - at + 2]);
+        let left = end - at;
+        let most = dice.pick(&[0, 1, 1 + left / 2, 1 + left / 2, left - 1, left, left + 2]);
         let (out, counts) = dice.pick(&[(most, most), (most, most + 3), (most + 2, most)]);
-        let room = (42 * out + dice.pick(&[0, 41]), counts);
         let to = end.min(at + most);
-        let seen = Seen::of(room, |out, counts| run.reader.lenient_end(out, counts));
+        let seen = Seen::of((42 * out + dice.pick(&[0, 41]), counts), |out, counts| run.reader.lenient_end(out, counts));
         let numbers = [0, 0, (to - at) as u64, (end - to) as u64];
         if to < end {
             let bytes = seen.out.holds(&run.expected.bytes[42 * at..42 * to]);
             let counts = seen.counts.holds(&run.expected.counts[at..to]);
             score.named(Name::DrainInParts, CALL, (numbers, true, true), (seen.numbers, bytes, counts));
-            draining(&mut run.reader, numbers[3], score);
+            if dice.percent(30) {
+                draining(&mut run.reader, numbers[3], score);
+            }
         } else {
             run.hold(CALL, numbers, at..to, &seen, score);
         }
         run.gather(seen);
         at = to;
     }
-    if run.reader.strict_end()[0] == 6 {
-        score.wrong(CALL, "a reader drains with nothing owed");
+    if let Some(theirs) = theirs(run) {
+        score.original(CALL, theirs, Ok(run.joined[before..].to_vec()));
     }
+    // The first lenient end where nothing was owed, and one more where something was.
     let numbers = run.reader.lenient_end(&mut [], &mut []);
     score.model(CALL, [0; 4], numbers);
-    ended(&mut run.reader, dice, score);
 }
 
 /// A reader that drains takes no piece and no strict end, and says what it owes.

@@ -1,1 +1,81 @@
-pub fn compare(_s: &mut crate::score::Score) {}
+// The limit of 268,435,456 bytes: files of exactly so many and of one more, of each kind, whole and in pieces. Most blocks announce nothing, so that
+// the original's vectors stay small; but a DS2 reader's hold needs a recording without a gap. It rests on whole.rs's comparisons and on Run.
+use crate::both::Both;
+use crate::common::files::{self, Dice};
+use crate::common::model::LIMIT;
+use crate::differences::Name;
+use crate::pieces::Run;
+use crate::score::Score;
+use crate::{ends, whole};
+use std::time::Instant;
+
+/// Blocks that announce, counted from the front, or back from the end: block, byte 0, byte 1, count.
+const PLACED: [(isize, u8, u8, u8); 6] =
+    [(0, 0x8F, 3, 9), (1, 0x0F, 5, 3), (3, 0x8F, 200, 4), (262_144, 0x0F, 3, 5), (-2, 0x0F, 100, 2), (-1, 0x0F, 60, 4)];
+
+fn sparse(magic: &[u8; 4], kind: u8) -> Vec<u8> {
+    let start = if magic[0] == 2 { 1024 } else { 1536 };
+    let blocks = (LIMIT - start) / 512;
+    let mut file = vec![0; LIMIT + 1];
+    file[..4].copy_from_slice(magic);
+    for (block, flags, first, count) in PLACED {
+        let block = if block < 0 { blocks - block.unsigned_abs() } else { block.unsigned_abs() };
+        let at = start + 512 * block;
+        for (place, byte) in file[at..at + 512].iter_mut().enumerate() {
+            *byte = (place * 13 % 251) as u8;
+        }
+        file[at..at + 6].copy_from_slice(&[flags, first, count, 0xFF, kind, 0xFF]);
+    }
+    file
+}
+
+pub fn compare(score: &mut Score) {
+    let dice = &mut Dice::new(2);
+    let kinds = [(b"\x02dss", 0), (b"\x01ds2", 0), (b"\x03ds2", 6), (b"\x01ds2", 7)];
+    for (magic, kind) in kinds {
+        let (file, begun) = (sparse(magic, kind), Instant::now());
+        for length in [LIMIT, LIMIT + 1] {
+            score.file(format_args!("{length} bytes, {magic:?}, type {kind}"));
+            whole(&Both::new(&file[..length]), dice, score);
+        }
+        println!("  whole, {magic:?}, type {kind}, at the limit and one byte over it: {:.1} s", begun.elapsed().as_secs_f64());
+        if kind == 0 && magic[0] == 2 {
+            one_piece(&file, dice, score);
+            in_pieces(2, &file[..LIMIT], true, dice, score);
+        }
+    }
+    // Its millions of packets take the original half a minute under an emulator.
+    let beside = std::env::var("KLOVDRUN_EMULATOR").unwrap_or_default().is_empty();
+    let file = files::continuous(false, (LIMIT - 1536) / 512, dice);
+    in_pieces(0, &file, beside, dice, score);
+}
+
+/// A DSS file in one piece, one byte too long and then not. The original takes a piece in a time that grows with its square, so it is not asked.
+fn one_piece(file: &[u8], dice: &mut Dice, score: &mut Score) {
+    let begun = Instant::now();
+    score.file(format_args!("a piece of {} bytes", file.len()));
+    let mut run = Run::new(&file[..LIMIT], 2, score);
+    run.theirs = None;
+    run.refuse(Name::Limit, [2, LIMIT as u64, 0, 0], file, (0, 0), score);
+    run.give(&file[..LIMIT], dice, score);
+    ends::all(&mut run, dice, score);
+    println!("  DSS in one piece, without the original: {:.1} s", begun.elapsed().as_secs_f64());
+}
+
+/// Pieces up to the limit, and then one byte more. The original is given short ones, as it takes a piece in a time that grows with its square.
+fn in_pieces(number: u64, file: &[u8], beside: bool, dice: &mut Dice, score: &mut Score) {
+    let (begun, size) = (Instant::now(), if beside { 8192 } else { 1 << 17 });
+    score.file(format_args!("{} bytes in pieces, kind {number}", file.len()));
+    let mut run = Run::new(file, number, score);
+    run.theirs = run.theirs.filter(|_| beside);
+    for piece in file.chunks(size) {
+        run.give(piece, dice, score);
+    }
+    let owed = run.owed() as u64;
+    run.refuse(Name::Limit, [2, LIMIT as u64, 0, owed], &[0], (84, 2), score);
+    score.model("piece", run.given, LIMIT);
+    let packets = run.handed();
+    ends::all(&mut run, dice, score);
+    let (with, seconds) = (if beside { "beside" } else { "without" }, begun.elapsed().as_secs_f64());
+    println!("  kind {number} in pieces of {size} bytes, {packets} packets, {with} the original: {seconds:.1} s");
+}

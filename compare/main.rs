@@ -45,7 +45,7 @@ fn whole(both: &Both, dice: &mut Dice, score: &mut Score) {
     numbers::compare(both, dice, score);
 }
 
-/// The file of that seed, in every way; one in twenty through the Rust crate, too.
+/// The file of that seed, in every way; some through the Rust crate, too.
 fn generated(seed: u64, score: &mut Score) {
     let mut dice = Dice::new(seed);
     let mut file = files::small(&mut dice);
@@ -56,7 +56,7 @@ fn generated(seed: u64, score: &mut Score) {
     let both = Both::new(&file);
     whole(&both, &mut dice, score);
     pieces::compare(&both, &mut dice, score);
-    if dice.percent(5) {
+    if dice.percent(3) {
         drop_in::compare(&file, &mut dice, score);
     }
 }

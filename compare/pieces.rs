@@ -75,7 +75,7 @@ impl<'a> Run<'a> {
     }
 
     /// Gives the next bytes. False: the hold does not take them, and nothing has changed.
-    fn give(&mut self, piece: &[u8], dice: &mut Dice, score: &mut Score) -> bool {
+    pub fn give(&mut self, piece: &[u8], dice: &mut Dice, score: &mut Score) -> bool {
         let blocks = model::whole_blocks(self.given + piece.len(), self.start);
         let owed = self.owed() as u64;
         if blocks > self.taken {
@@ -84,7 +84,7 @@ impl<'a> Run<'a> {
             return false;
         }
         let (from, to) = (self.handed(), self.steps.ready[blocks]);
-        if to > from && dice.percent(20) {
+        if to > from && dice.percent(10) {
             let room = lacking(to - from, dice);
             self.refuse(Name::PacketRoom, [8, (to - from) as u64, 0, owed], piece, room, score);
         }
@@ -118,7 +118,7 @@ impl<'a> Run<'a> {
     }
 
     /// A piece that is refused: by these numbers, with nothing written and the reader as it was.
-    fn refuse(&mut self, name: Name, numbers: Numbers, piece: &[u8], room: (usize, usize), score: &mut Score) {
+    pub fn refuse(&mut self, name: Name, numbers: Numbers, piece: &[u8], room: (usize, usize), score: &mut Score) {
         let before = self.reader.clone();
         let seen = Seen::of(room, |out, counts| self.reader.piece(piece, out, counts));
         let same = self.reader.bytes() == before.bytes();
@@ -141,7 +141,7 @@ pub fn compare(both: &Both, dice: &mut Dice, score: &mut Score) {
         ends::no_such_kind(dice, score);
     }
     // One byte at a time takes long, so it is for few.
-    let pieces = if both.file.len() < 2700 && dice.below(1000) < 2 {
+    let pieces = if both.file.len() < 2700 && dice.below(4000) < 1 {
         both.file.chunks(1).collect()
     } else {
         files::few_pieces(both.file, dice)
@@ -158,7 +158,7 @@ pub fn fed(both: &Both, number: u64, pieces: &[&[u8]], dice: &mut Dice, score: &
         if !all {
             break;
         }
-        if dice.percent(8) {
+        if dice.percent(5) {
             ends::strict(&mut run, dice, score);
         }
     }

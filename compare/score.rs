@@ -9,9 +9,9 @@ const TOLD: u64 = 20;
 
 #[derive(Default)]
 pub struct Score {
-    /// By call: comparisons with the original, and with the model.
-    calls: BTreeMap<&'static str, [u64; 2]>,
-    named: BTreeMap<Name, u64>,
+    /// By call: comparisons with the original, and with the model. A name may stand here twice, at two addresses.
+    calls: Vec<(&'static str, [u64; 2])>,
+    named: [u64; NAMES.len()],
     unexplained: u64,
     files: u64,
     file: String,
@@ -42,7 +42,7 @@ impl Score {
 
     /// A case of a named difference: our answer must be the one that the description gives there.
     pub fn named<T: PartialEq + Debug>(&mut self, name: Name, call: &'static str, expected: T, ours: T) {
-        *self.named.entry(name).or_insert(0) += 1;
+        self.named[name as usize] += 1;
         self.compare(call, 1, "the description", expected, ours);
     }
 
@@ -52,7 +52,15 @@ impl Score {
     }
 
     fn compare<T: PartialEq + Debug>(&mut self, call: &'static str, column: usize, by: &str, expected: T, ours: T) {
-        self.calls.entry(call).or_insert([0; 2])[column] += 1;
+        // By address, since it is done for every comparison.
+        match self.calls.iter_mut().find(|(name, _)| std::ptr::eq(*name, call)) {
+            Some((_, numbers)) => numbers[column] += 1,
+            None => {
+                let mut numbers = [0; 2];
+                numbers[column] = 1;
+                self.calls.push((call, numbers));
+            }
+        }
         if expected != ours {
             self.unexplained += 1;
             if self.unexplained <= TOLD {
@@ -64,21 +72,26 @@ impl Score {
     /// Prints the tables, and answers whether all is well. Where all parts were run, every name must have had a case.
     pub fn close(&self, all_parts: bool) -> bool {
         println!("{:>12} {:>12}  comparisons of each call: with the original, with the description", "original", "description");
-        for (call, [original, model]) in &self.calls {
+        let mut calls: BTreeMap<_, [u64; 2]> = BTreeMap::new();
+        for &(call, [original, model]) in &self.calls {
+            let numbers = calls.entry(call).or_default();
+            *numbers = [numbers[0] + original, numbers[1] + model];
+        }
+        for (call, [original, model]) in &calls {
             println!("{original:12} {model:12}  {call}");
         }
         println!("{:>12}  cases of each named difference", "");
         let mut absent = 0;
         for &(name, sentence) in NAMES {
-            let cases = *self.named.get(&name).unwrap_or(&0);
+            let cases = self.named[name as usize];
             println!("{cases:12}  {name:?}: {sentence}");
             absent += u64::from(cases == 0);
         }
         if all_parts && absent > 0 {
             println!("{absent} names had no case");
         }
-        let comparisons: u64 = self.calls.values().flatten().sum();
-        let named: u64 = self.named.values().sum();
+        let comparisons: u64 = calls.values().flatten().sum();
+        let named: u64 = self.named.iter().sum();
         let (files, unexplained) = (self.files, self.unexplained);
         println!("{files} files, {comparisons} comparisons, {named} under named differences, {unexplained} unexplained");
         unexplained == 0 && !(all_parts && absent > 0)

@@ -198,3 +198,42 @@ where
     let segments = lacking(rows, 3, dice);
     score.named(Name::TableRoom, call, ([9, rows as u64, 0, 0], true), nothing((enough, segments)));
 }
+
+/// Every length of the tables around the one that is needed.
+pub fn rooms(both: &Both, score: &mut Score) {
+    if let Ok((Kind::Qp, start)) = both.kind {
+        let rows = model::qp(both.file, start).len();
+        for words in (4 * rows).saturating_sub(5)..4 * rows + 5 {
+            let (numbers, table) = ask_qp(both.file, words);
+            if words / 4 < rows {
+                let expected = ([9, rows as u64, 0, 0], true);
+                score.named(Name::TableRoom, "demux_ds2_qp", expected, (numbers, table.untouched()));
+            } else {
+                let announced = model::announced(both.file, start) as u64;
+                score.model("demux_ds2_qp", [0, 0, rows as u64, announced], numbers);
+            }
+        }
+    }
+    if let Ok((Kind::Qp7, start)) = both.kind {
+        if let Ok(rows) = model::qp7(both.file, start) {
+            qp7_rooms(both.file, (rows.iter().map(|row| row.records.len()).sum(), rows.len()), score);
+        }
+    }
+}
+
+fn qp7_rooms(file: &[u8], (records, rows): (usize, usize), score: &mut Score) {
+    const CALL: &str = "demux_ds2_qp7";
+    for room in [0, 1, 2].map(|more| (records + more).saturating_sub(1)) {
+        for words in (3 * rows).saturating_sub(4)..3 * rows + 4 {
+            let (numbers, places, table) = ask_qp7(file, (room, words));
+            let seen = (numbers, places.untouched() && table.untouched());
+            if room < records {
+                score.named(Name::PacketRoom, CALL, ([8, records as u64, 0, 0], true), seen);
+            } else if words / 3 < rows {
+                score.named(Name::TableRoom, CALL, ([9, rows as u64, 0, 0], true), seen);
+            } else {
+                score.model(CALL, [0, 0, records as u64, rows as u64], numbers);
+            }
+        }
+    }
+}

@@ -149,3 +149,27 @@ pub fn joined(both: &Both, dss: bool) -> Option<Vec<u8>> {
     let told = if dss { both.dss.as_ref().map(dss_packets) } else { both.ds2.as_ref().map(sp_packets) };
     told.filter(|&(_, announced)| announced != usize::MAX).map(|(bytes, _)| bytes)
 }
+
+/// Every room around the one that is needed, by the byte of the output and by the entry of the table.
+pub fn rooms(both: &Both, score: &mut Score) {
+    for call in CALLS {
+        let (kind, start) = match call.expected(both) {
+            Ok(told) => told,
+            Err(_) => continue,
+        };
+        let expected = Packets::of(&model::packets(both.file, kind, start));
+        let packets = expected.counts.len();
+        for out in [0, 1, 41, 42, 43, 84].map(|more| (42 * packets + more).saturating_sub(42)) {
+            for counts in [0, 1, 2].map(|more| (packets + more).saturating_sub(1)) {
+                let seen = call.ask(both.file, (out, counts));
+                if packets > counts.min(out / 42) {
+                    let untouched = seen.out.untouched() && seen.counts.untouched();
+                    score.named(Name::PacketRoom, call.name, ([8, packets as u64, 0, 0], true), (seen.numbers, untouched));
+                } else {
+                    let written = seen.out.holds(&expected.bytes) && seen.counts.holds(&expected.counts);
+                    score.model(call.name, ([0, 0, packets as u64, 0], true), (seen.numbers, written));
+                }
+            }
+        }
+    }
+}

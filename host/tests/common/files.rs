@@ -308,16 +308,16 @@ pub fn pieces<'a>(mut file: &'a [u8], dice: &mut Dice) -> Vec<&'a [u8]> {
     pieces
 }
 
-/// The bytes cut at most at eight places, of which many are around edges of blocks and payloads; at times one byte at a time around a place.
+/// The bytes cut at most at four places, of which many are around edges of blocks and payloads; at times one byte at a time around a place.
 pub fn few_pieces<'a>(file: &'a [u8], dice: &mut Dice) -> Vec<&'a [u8]> {
-    let mut cuts: Vec<usize> = (0..dice.below(8))
+    let mut cuts: Vec<usize> = (0..dice.below(5))
         .map(|_| {
             let edge = 512 * dice.below(file.len() / 512 + 2) + dice.pick(&[0, 0, 6, 506]);
             if dice.percent(50) { edge + dice.below(3) } else { dice.below(file.len() + 1) }
         })
         .map(|cut| cut.min(file.len()))
         .collect();
-    if dice.percent(2) {
+    if dice.percent(1) {
         let around = dice.below(file.len() + 1);
         cuts.extend((around..around + 40).map(|cut| cut.min(file.len())));
     }
