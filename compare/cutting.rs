@@ -1,5 +1,5 @@
-// The cutting of frames, and bytes of the payload stream on request: `frame`, `fetch` and `show` beside the list of `Ds2QpStreamDemuxer`. Places,
-// what is written of a scratch, and refusals are held to the model.
+// The cutting of frames, and bytes of the payload stream on request: `frame`, `fetch` and `show` beside the list of `Ds2QpStreamDemuxer`.
+// Places, what is written of a scratch, and refusals are held to the model.
 use crate::both::Both;
 use crate::common::files::Dice;
 use crate::common::model::{self, Kind};

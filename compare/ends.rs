@@ -1,5 +1,5 @@
-// The ends of a reading in pieces: strict and lenient, beside the original's, the lenient one also in parts; a reader that drains, one that has
-// ended, and one that was never opened. Where the original has no such state, the answers are the description's.
+// The ends of a reading in pieces: strict and lenient, beside the original's, the lenient one also in parts; a reader that drains, one that
+// has ended, and one that was never opened. Where the original has no such state, the answers are the description's.
 use crate::common::files::Dice;
 use crate::differences::Name;
 use crate::ours::{Numbers, Reader};
@@ -69,9 +69,10 @@ fn lenient(run: &mut Run, dice: &mut Dice, score: &mut Score) {
     let (from, owed) = (run.handed(), run.owed());
     let seen = Seen::of(ample(owed, dice), |out, counts| run.reader.lenient_end(out, counts));
     match theirs(run) {
-        Some(Ok(bytes)) => score.original(CALL, (0, bytes.len() as u64, true), {
-            (seen.numbers[0], 42 * seen.numbers[2], seen.out.holds(&bytes))
-        }),
+        Some(Ok(bytes)) => {
+            let ours = (seen.numbers[0], 42 * seen.numbers[2], seen.out.holds(&bytes));
+            score.original(CALL, (0, bytes.len() as u64, true), ours);
+        }
         Some(Err(number)) => score.original(CALL, (number, 0, true), (seen.numbers[0], seen.numbers[2], seen.untouched())),
         None => {}
     }

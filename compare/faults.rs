@@ -1,5 +1,5 @@
-// The faults of the original that docs/DIFFERENCES.md lists, each on the smallest input that has it: the program starts itself anew for the one call,
-// since a fault ends the process. It rests on KLOVDRUN_EMULATOR, the program that runs this one, if there is one.
+// The faults of the original that docs/DIFFERENCES.md lists, each on the smallest input that has it: the program starts itself anew for the
+// one call, since a fault ends the process. It rests on KLOVDRUN_EMULATOR, the program that runs this one, if there is one.
 use crate::score::Score;
 use original::Stream;
 use std::process::{Command, Output};
@@ -37,13 +37,21 @@ const CASES: &[Case] = &[
     Case { name: "ds2-seven-4-bytes", call: || ds2(7, 4), end: End::Panic("the len is 4 but the index is 4096") },
     Case { name: "ds2-seven-4096-bytes", call: || ds2(7, 4096), end: End::Panic("the len is 4096 but the index is 4096") },
     Case { name: "ds2-seven-4097-bytes", call: || ds2(7, 4097), end: End::Said("0 packets") },
-    Case { name: "pieces-one-block", call: || pieces(&[(235, 1)], 0), end: End::Said("1 whole; 1, 0 at the end; 0 wrong, 0 zeros") },
+    Case {
+        name: "pieces-one-block",
+        call: || pieces(&[(235, 1)], 0),
+        end: End::Said("1 whole; 1, 0 at the end; 0 wrong, 0 zeros"),
+    },
     Case {
         name: "pieces-2047-bytes",
         call: || pieces(&[(235, 1), (3, 1)], 1),
         end: End::Said("1 whole; 1, 0 at the end; 0 wrong, 0 zeros"),
     },
-    Case { name: "pieces-2048-bytes", call: || pieces(&[(235, 1), (3, 1)], 0), end: End::Panic("range end index 548 out of range for slice of length 506") },
+    Case {
+        name: "pieces-2048-bytes",
+        call: || pieces(&[(235, 1), (3, 1)], 0),
+        end: End::Panic("range end index 548 out of range for slice of length 506"),
+    },
     Case {
         name: "pieces-before-506",
         call: || pieces(&[(234, 1), (3, 1)], 0),
@@ -61,8 +69,16 @@ const CASES: &[Case] = &[
     },
     Case { name: "continuous-3", call: || continuous(3), end: End::Said("37 whole; 37, 0 at the end; 0 wrong, 0 zeros") },
     Case { name: "continuous-4", call: || continuous(4), end: End::Said("50 whole; 37, 13 at the end; 13 wrong, 12 zeros") },
-    Case { name: "continuous-5", call: || continuous(5), end: End::Panic("range end index 1024 out of range for slice of length 1012") },
-    Case { name: "continuous-31", call: || continuous(31), end: End::Panic("range end index 1024 out of range for slice of length 1012") },
+    Case {
+        name: "continuous-5",
+        call: || continuous(5),
+        end: End::Panic("range end index 1024 out of range for slice of length 1012"),
+    },
+    Case {
+        name: "continuous-31",
+        call: || continuous(31),
+        end: End::Panic("range end index 1024 out of range for slice of length 1012"),
+    },
 ];
 
 fn zeros(magic: [u8; 4], length: usize) -> Vec<u8> {
@@ -87,7 +103,7 @@ fn ds2(first: u8, length: usize) -> String {
     }
 }
 
-/// Blocks by byte 1 and count, unswapped, payloads without a zero, so many bytes of the end left away: `DssSpStreamDemuxer` beside `demux_dss`.
+/// Blocks by byte 1 and count, unswapped, so many bytes of the end left away.
 fn pieces(blocks: &[(u8, u8)], lost: usize) -> String {
     let headers: Vec<_> = blocks.iter().map(|&(first, count)| [0x0F, first, count, 0xFF, 0, 0xFF]).collect();
     streamed(&headers, lost)
@@ -104,13 +120,14 @@ fn continuous(blocks: usize) -> String {
                 swapped = !swapped;
                 count += 1;
             }
-            let byte = |flag| if flag { (0x8F, 4) } else { (0x0F, 6) };
-            [byte(flag).0, ((first + byte(flag).1) / 2) as u8, count, 0xFF, 0, 0xFF]
+            let (flags, before) = if flag { (0x8F, 4) } else { (0x0F, 6) };
+            [flags, ((first + before) / 2) as u8, count, 0xFF, 0, 0xFF]
         })
         .collect();
     streamed(&headers, 0)
 }
 
+/// `DssSpStreamDemuxer` beside `demux_dss`, on payloads without a zero.
 fn streamed(headers: &[[u8; 6]], lost: usize) -> String {
     let mut file = zeros(*b"\x02dss", 1024);
     for header in headers {

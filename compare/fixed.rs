@@ -1,5 +1,5 @@
-// The worked examples of the format's description and the listing's file, with the numbers written out by hand, and recordings at an edge: counts of
-// 255, rooms by the byte, sizes one short. It rests on the comparisons of a whole file and of its pieces, which every one goes through too.
+// The worked examples of the format's description and the listing's file, with the numbers written out by hand, and recordings at an edge:
+// counts of 255, rooms by the byte, sizes one short, pieces of one byte. It rests on the comparisons of a whole file and of its pieces.
 use crate::both::Both;
 use crate::common::files::{self, Dice};
 use crate::lent::Lent;

@@ -1,5 +1,6 @@
-// The limit of 268,435,456 bytes: files of exactly so many and of one more, of each kind, whole and in pieces. Most blocks announce nothing, so that
-// the original's vectors stay small; but a DS2 reader's hold needs a recording without a gap. It rests on whole.rs's comparisons and on Run.
+// The limit of 268,435,456 bytes: files of exactly so many and of one more, of each kind, whole and in pieces. Most blocks announce
+// nothing, so that the original's vectors stay small; but a DS2 reader's hold needs a recording without a gap. It rests on the comparisons
+// of a whole file, of pieces and of ends.
 use crate::both::Both;
 use crate::common::files::{self, Dice};
 use crate::common::model::LIMIT;
@@ -50,7 +51,7 @@ pub fn compare(score: &mut Score) {
     in_pieces(0, &file, beside, dice, score);
 }
 
-/// A DSS file in one piece, one byte too long and then not. The original takes a piece in a time that grows with its square, so it is not asked.
+/// A DSS file in one piece, one byte too long and then not. The original is not asked: its time grows with the square of a piece.
 fn one_piece(file: &[u8], dice: &mut Dice, score: &mut Score) {
     let begun = Instant::now();
     score.file(format_args!("a piece of {} bytes", file.len()));
@@ -62,7 +63,7 @@ fn one_piece(file: &[u8], dice: &mut Dice, score: &mut Score) {
     println!("  DSS in one piece, without the original: {:.1} s", begun.elapsed().as_secs_f64());
 }
 
-/// Pieces up to the limit, and then one byte more. The original is given short ones, as it takes a piece in a time that grows with its square.
+/// Pieces up to the limit, and then one byte more. Where the original is beside, they are short ones.
 fn in_pieces(number: u64, file: &[u8], beside: bool, dice: &mut Dice, score: &mut Score) {
     let (begun, size) = (Instant::now(), if beside { 8192 } else { 1 << 17 });
     score.file(format_args!("{} bytes in pieces, kind {number}", file.len()));

@@ -37,9 +37,7 @@ pub fn payload(file: &[u8], block: usize) -> Numbers {
 
 pub fn demux_dss(file: &[u8], out: &mut [u8], counts: &mut [u8]) -> Numbers {
     let (out_len, counts_len) = (out.len(), counts.len());
-    numbers(unsafe {
-        raw::klov_demux_dss(file.as_ptr(), file.len(), out.as_mut_ptr(), out_len, counts.as_mut_ptr(), counts_len)
-    })
+    numbers(unsafe { raw::klov_demux_dss(file.as_ptr(), file.len(), out.as_mut_ptr(), out_len, counts.as_mut_ptr(), counts_len) })
 }
 
 pub fn demux_ds2_sp(file: &[u8], out: &mut [u8], counts: &mut [u8]) -> Numbers {
@@ -56,14 +54,7 @@ pub fn demux_ds2_qp(file: &[u8], table: &mut [u32]) -> Numbers {
 pub fn demux_ds2_qp7(file: &[u8], records: &mut [u32], segments: &mut [u32]) -> Numbers {
     let (records_len, segments_len) = (records.len(), segments.len());
     numbers(unsafe {
-        raw::klov_demux_ds2_qp7(
-            file.as_ptr(),
-            file.len(),
-            records.as_mut_ptr(),
-            records_len,
-            segments.as_mut_ptr(),
-            segments_len,
-        )
+        raw::klov_demux_ds2_qp7(file.as_ptr(), file.len(), records.as_mut_ptr(), records_len, segments.as_mut_ptr(), segments_len)
     })
 }
 
@@ -106,15 +97,7 @@ impl Reader {
     pub fn piece(&mut self, piece: &[u8], out: &mut [u8], counts: &mut [u8]) -> Numbers {
         let (out_len, counts_len) = (out.len(), counts.len());
         numbers(unsafe {
-            raw::klov_piece(
-                &mut *self.0,
-                piece.as_ptr(),
-                piece.len(),
-                out.as_mut_ptr(),
-                out_len,
-                counts.as_mut_ptr(),
-                counts_len,
-            )
+            raw::klov_piece(&mut *self.0, piece.as_ptr(), piece.len(), out.as_mut_ptr(), out_len, counts.as_mut_ptr(), counts_len)
         })
     }
 

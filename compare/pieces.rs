@@ -1,5 +1,5 @@
-// A reader fed in pieces beside the original's stream demuxer, and its packets joined beside the original's whole reading. Counts, frames owed,
-// refusals, and that a refused call leaves lent memory and all bytes of the reader as they were, are held to the model.
+// A reader fed in pieces beside the original's stream demuxer, and its packets joined beside the original's whole reading. Counts, frames
+// owed, refusals, and that a refused call leaves lent memory and all bytes of the reader as they were, are held to the model.
 use crate::both::Both;
 use crate::common::files::{self, Dice};
 use crate::common::model::{self, Kind, Steps};
@@ -12,8 +12,7 @@ use crate::whole_sp::{self, ample, lacking, Packets};
 use original::Stream;
 
 /// A reading in course.
-pub struct Run<'a> {
-    pub file: &'a [u8],
+pub struct Run {
     pub start: usize,
     pub expected: Packets,
     steps: Steps,
@@ -46,8 +45,9 @@ impl Seen {
     }
 }
 
-impl<'a> Run<'a> {
-    pub fn new(file: &'a [u8], number: u64, score: &mut Score) -> Run<'a> {
+impl Run {
+    /// A fresh reader of that kind, for these bytes.
+    pub fn new(file: &[u8], number: u64, score: &mut Score) -> Run {
         let (kind, start) = if number == 0 { (Kind::Ds2Sp, 0x600) } else { (Kind::DssSp, 512 * number as usize) };
         let (answer, reader) = Reader::open(number);
         score.model("open", [0; 4], answer);
@@ -58,7 +58,7 @@ impl<'a> Run<'a> {
         };
         let steps = model::steps(file, kind, start);
         let expected = Packets::of(&model::packets(file, kind, start));
-        Run { file, start, expected, steps, taken, reader, theirs, given: 0, joined: Vec::new() }
+        Run { start, expected, steps, taken, reader, theirs, given: 0, joined: Vec::new() }
     }
 
     fn blocks(&self) -> usize {

@@ -7,6 +7,11 @@ use std::fmt::{Debug, Display};
 /// Unexplained differences are told so often; further ones are counted.
 const TOLD: u64 = 20;
 
+/// Of long values the beginning.
+fn beginning(value: &impl Debug) -> String {
+    format!("{value:?}").chars().take(200).collect()
+}
+
 #[derive(Default)]
 pub struct Score {
     /// By call: comparisons with the original, and with the model. A name may stand here twice, at two addresses.
@@ -64,7 +69,8 @@ impl Score {
         if expected != ours {
             self.unexplained += 1;
             if self.unexplained <= TOLD {
-                println!("UNEXPLAINED in {}: {call}: by {by} {expected:?}, here {ours:?}", self.file);
+                let (expected, ours) = (beginning(&expected), beginning(&ours));
+                println!("UNEXPLAINED in {}: {call}: by {by} {expected}, here {ours}", self.file);
             }
         }
     }

@@ -70,10 +70,8 @@ fn qp(both: &Both, dice: &mut Dice, score: &mut Score) {
     }
     let start = both.kind.map_or(0, |(_, start)| start);
     let rows = model::qp(both.file, start);
-    let words: Vec<u32> = rows
-        .iter()
-        .flat_map(|row| [row.start as u32, row.length as u32, row.frames as u32, u32::from(row.reset)])
-        .collect();
+    let words: Vec<u32> =
+        rows.iter().flat_map(|row| [row.start as u32, row.length as u32, row.frames as u32, u32::from(row.reset)]).collect();
     let announced = model::announced(both.file, start);
     let (numbers, mut table) = ask_qp(both.file, ample(rows.len(), 4, dice));
     score.model(CALL, ([0, 0, rows.len() as u64, announced as u64], true), (numbers, table.holds(&words)));

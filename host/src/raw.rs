@@ -59,7 +59,14 @@ extern "C" {
     pub(crate) fn klov_detect_ds2_format_type(file: *const u8, file_len: usize, header_size: usize) -> u8;
     pub(crate) fn klov_is_ds2_audio_block_header(header: *const u8, header_len: usize) -> u8;
     pub(crate) fn klov_payload(file: *const u8, file_len: usize, block: usize) -> Answer;
-    pub(crate) fn klov_demux_dss(file: *const u8, file_len: usize, out: *mut u8, out_len: usize, counts: *mut u8, counts_len: usize) -> Answer;
+    pub(crate) fn klov_demux_dss(
+        file: *const u8,
+        file_len: usize,
+        out: *mut u8,
+        out_len: usize,
+        counts: *mut u8,
+        counts_len: usize,
+    ) -> Answer;
     pub(crate) fn klov_demux_ds2_sp(
         file: *const u8,
         file_len: usize,
@@ -106,7 +113,8 @@ extern "C" {
         counts_len: usize,
     ) -> Answer;
     pub(crate) fn klov_strict_end(reader: *mut Reader) -> Answer;
-    pub(crate) fn klov_lenient_end(reader: *mut Reader, out: *mut u8, out_len: usize, counts: *mut u8, counts_len: usize) -> Answer;
+    pub(crate) fn klov_lenient_end(reader: *mut Reader, out: *mut u8, out_len: usize, counts: *mut u8, counts_len: usize)
+        -> Answer;
 }
 
 fn accepted<T>(refusal: u64, beside: u64, answer: T) -> Result<T> {
@@ -171,14 +179,7 @@ pub(crate) fn demux_ds2_qp(file: &[u8], table: &mut [u32]) -> Result<(usize, usi
 /// How many records, and how many segments.
 pub(crate) fn demux_ds2_qp7(file: &[u8], records: &mut [u32], segments: &mut [u32]) -> Result<(usize, usize)> {
     unsafe {
-        klov_demux_ds2_qp7(
-            file.as_ptr(),
-            file.len(),
-            records.as_mut_ptr(),
-            records.len(),
-            segments.as_mut_ptr(),
-            segments.len(),
-        )
+        klov_demux_ds2_qp7(file.as_ptr(), file.len(), records.as_mut_ptr(), records.len(), segments.as_mut_ptr(), segments.len())
     }
     .pair()
 }
@@ -211,18 +212,8 @@ pub(crate) fn open(kind: u64) -> Result<Reader> {
 }
 
 pub(crate) fn piece(reader: &mut Reader, piece: &[u8], out: &mut [u8], counts: &mut [u8]) -> (Result<usize>, usize) {
-    unsafe {
-        klov_piece(
-            reader,
-            piece.as_ptr(),
-            piece.len(),
-            out.as_mut_ptr(),
-            out.len(),
-            counts.as_mut_ptr(),
-            counts.len(),
-        )
-    }
-    .step()
+    unsafe { klov_piece(reader, piece.as_ptr(), piece.len(), out.as_mut_ptr(), out.len(), counts.as_mut_ptr(), counts.len()) }
+        .step()
 }
 
 pub(crate) fn strict_end(reader: &mut Reader) -> (Result<usize>, usize) {

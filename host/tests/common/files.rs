@@ -175,7 +175,7 @@ pub fn any(dice: &mut Dice) -> Vec<u8> {
     dice.pick(&sorts)(dice)
 }
 
-/// As a recorder makes it: packets without a gap, each block announcing those that begin in it, with where and how the first one begins.
+/// As a recorder makes it: packets without a gap, each block announcing those that begin in it, with where and how the first begins.
 /// At times the last packets are announced though the recording ends inside them, as when a card was pulled.
 pub fn continuous(dss: bool, blocks: usize, dice: &mut Dice) -> Vec<u8> {
     let whole = dice.percent(50);
@@ -225,8 +225,8 @@ fn ds2_silent(dice: &mut Dice) -> Vec<u8> {
     cut(file, dice)
 }
 
-/// `\x07ds2` with good headers in runs here and there: ties, runs that the file's end cuts, places that are no multiple of 512, and, now and
-/// then, places around 0x10000, where the scan ends.
+/// `\x07ds2` with good headers in runs here and there: ties, runs that the file's end cuts, places that are no multiple of 512, and, now
+/// and then, places around 0x10000, where the scan ends.
 pub fn scanned(dice: &mut Dice) -> Vec<u8> {
     let near = if dice.percent(4) { 0x10000 / 512 - 4 } else { 0 };
     let blocks = near + 1 + dice.below(11);
@@ -308,12 +308,16 @@ pub fn pieces<'a>(mut file: &'a [u8], dice: &mut Dice) -> Vec<&'a [u8]> {
     pieces
 }
 
-/// The bytes cut at most at four places, of which many are around edges of blocks and payloads; at times one byte at a time around a place.
+/// The bytes cut at four places at most, many of them around edges of blocks and payloads; at times one byte at a time around a place.
 pub fn few_pieces<'a>(file: &'a [u8], dice: &mut Dice) -> Vec<&'a [u8]> {
     let mut cuts: Vec<usize> = (0..dice.below(5))
         .map(|_| {
             let edge = 512 * dice.below(file.len() / 512 + 2) + dice.pick(&[0, 0, 6, 506]);
-            if dice.percent(50) { edge + dice.below(3) } else { dice.below(file.len() + 1) }
+            if dice.percent(50) {
+                edge + dice.below(3)
+            } else {
+                dice.below(file.len() + 1)
+            }
         })
         .map(|cut| cut.min(file.len()))
         .collect();
