@@ -32,6 +32,7 @@ mod whole_sp;
 use both::Both;
 use common::files::{self, Dice};
 use score::Score;
+use std::panic::{catch_unwind, AssertUnwindSafe};
 use std::time::Instant;
 
 const FILES: u64 = 100_000;
@@ -61,9 +62,16 @@ fn generated(seed: u64, score: &mut Score) {
     }
 }
 
+/// A panic of the original's, where it is taken to have none, is told with the file, and ends the part.
+fn guarded(score: &mut Score, part: impl FnOnce(&mut Score)) {
+    if catch_unwind(AssertUnwindSafe(|| part(score))).is_err() {
+        score.wrong("any call", "a panic");
+    }
+}
+
 fn timed(what: &str, score: &mut Score, part: impl FnOnce(&mut Score)) {
     let (start, files) = (Instant::now(), score.files());
-    part(score);
+    guarded(score, part);
     println!("{what}: {} files, {:.1} s", score.files() - files, start.elapsed().as_secs_f64());
 }
 
@@ -84,6 +92,8 @@ fn main() {
         timed("short inputs", &mut score, short::compare);
         timed("the limit", &mut score, limits::compare);
     }
-    timed("generated", &mut score, |score| (seed..seed + files).for_each(|seed| generated(seed, score)));
+    timed("generated", &mut score, |score| {
+        (seed..seed + files).for_each(|seed| guarded(score, |score| generated(seed, score)));
+    });
     std::process::exit(i32::from(!score.close(all_parts)));
 }

@@ -1,7 +1,7 @@
 // Short inputs, all of them: every input of up to 2 bytes, every one of 3 and 4 bytes over those that magics are made of, each magic with
 // every length up to a block past its header, and every first byte with every type. It rests on the comparisons of a file and its pieces.
 use crate::both::Both;
-use crate::common::files::Dice;
+use crate::common::files::{self, Dice};
 use crate::score::Score;
 use crate::{pieces, whole};
 
@@ -13,6 +13,7 @@ pub fn compare(score: &mut Score) {
         every_length(magic, dice, score);
     }
     every_first_byte(dice, score);
+    one_block(dice, score);
 }
 
 fn ask(file: &[u8], dice: &mut Dice, score: &mut Score) {
@@ -82,10 +83,23 @@ fn every_first_byte(dice: &mut Dice, score: &mut Score) {
             whole(&Both::new(&file), dice, score);
         }
     }
-    file[1..4].copy_from_slice(b"enc");
-    for kind in 0..=255 {
-        (file[0], file[1540]) = (3, kind);
-        score.file(format_args!("an encrypted file, type {kind}"));
-        whole(&Both::new(&file), dice, score);
+    for (text, any) in [(b"enc", false), (b"enc", true), (b"dss", true)] {
+        file[1..4].copy_from_slice(text);
+        for one in 0..=255 {
+            (file[0], file[1540]) = if any { (one, 6) } else { (3, one) };
+            score.file(format_args!("{text:?}, first byte {}, type {}", file[0], file[1540]));
+            whole(&Both::new(&file), dice, score);
+        }
+    }
+}
+
+/// DSS recordings of one block, in pieces too: none of them is outside the original's domain, so its faults need two.
+fn one_block(dice: &mut Dice, score: &mut Score) {
+    for (first, count) in (0..=255).flat_map(|first| [(first, 1), (first, 13)]) {
+        for flags in [0x0F, 0x8F] {
+            let file = files::recording(b"\x02dss", 1024, &[[flags, first, count, 0, 0, 0]], dice);
+            score.file(format_args!("a block with {flags}, {first}, {count}"));
+            pieces::fed(&Both::new(&file), 2, &[&file], dice, score);
+        }
     }
 }

@@ -107,7 +107,7 @@ fn ds2_sp_of(blocks: usize, manner: usize, dice: &mut Dice) -> Vec<u8> {
     cut(file, dice)
 }
 
-/// QP or QP7 by the type, with first byte 1 or 3. Most blocks go on where the one before ended.
+/// QP or QP7 by the type, with first byte 1 or 3. Most blocks go on where the one before ended, be it some blocks further on.
 fn ds2_frames(kind: u8, blocks: usize, dice: &mut Dice) -> Vec<u8> {
     let mut end = 0;
     let headers: Vec<_> = (0..blocks)
@@ -118,8 +118,11 @@ fn ds2_frames(kind: u8, blocks: usize, dice: &mut Dice) -> Vec<u8> {
                 _ => dice.byte(),
             };
             let last = block + 1 == blocks && dice.percent(60);
-            let count = if last { dice.below(4) } else { dice.pick(&[0, 1, 8, 9, 9, 9, 10, 12]) };
-            end = 506 * block + (2 * usize::from(first)).saturating_sub(6) + 56 * count;
+            let count = if last { dice.below(4) } else { dice.pick(&[0, 0, 1, 8, 9, 9, 9, 10, 12, 19]) };
+            // The blocks after a silent one at times go on where the one before it ended.
+            if count > 0 || dice.percent(60) {
+                end = 506 * block + (2 * usize::from(first)).saturating_sub(6) + 56 * count;
+            }
             header(flags(dice), first, count as u8, if dice.percent(95) { kind } else { dice.byte() })
         })
         .collect();
@@ -229,12 +232,12 @@ fn ds2_silent(dice: &mut Dice) -> Vec<u8> {
 /// and then, places around 0x10000, where the scan ends.
 pub fn scanned(dice: &mut Dice) -> Vec<u8> {
     let near = if dice.percent(4) { 0x10000 / 512 - 4 } else { 0 };
-    let blocks = near + 1 + dice.below(11);
+    let blocks = near + 1 + dice.below(18);
     let mut file = b"\x07ds2".to_vec();
     file.resize(512 * blocks + dice.pick(&[0, 4, 5, 6, 7, 511, 300]), 0);
-    for _ in 0..dice.below(4) {
+    for _ in 0..dice.pick(&[0, 1, 2, 2, 3, 4]) {
         let from = 512 * (near + dice.below(blocks - near)) + if dice.percent(15) { dice.below(512) } else { 0 };
-        for block in 0..dice.pick(&[1, 2, 2, 3, 3, 4, 5, 16]) {
+        for block in 0..dice.pick(&[1, 2, 2, 3, 3, 3, 4, 4, 5, 16]) {
             let kind = dice.pick(&[0, 1, 2, 3, 6, 7, 6, 7, 4, 5, 8]);
             let good = header(0x0F, 3 + dice.below(9) as u8, 1 + dice.below(9) as u8, kind);
             if let Some(part) = file.get_mut(from + 512 * block..from + 512 * block + 6) {
