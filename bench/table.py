@@ -89,7 +89,7 @@ def share(ratio):
 
 
 def counted(job, size, target, quick, growing):
-    """The cells of a row that are instructions, and the ratio."""
+    """The cells of a row that are instructions, the ratio, and ours for each unit."""
     many = units(job, size)
     ours, rust = instructions(job, size, "ours"), instructions(job, size, "rust")
     ratio = ours / rust
@@ -97,7 +97,7 @@ def counted(job, size, target, quick, growing):
     cells = [figure(ours / many), figure(rust / many), share(ratio), "%.2f" % target, missed]
     if not quick:
         cells += [figure(grown(job, at, size, ours, many)) if growing else "" for at in SIZES]
-    return cells, ratio
+    return cells, ratio, ours / many
 
 
 def grown(job, at, size, ours, many):
@@ -126,18 +126,18 @@ def line(cells):
 
 
 def table(quick, counts):
-    """The table's lines, and each row's ratio."""
-    said, ratios = targets(), {}
+    """The table's lines, each row's ratio, and each row's instructions of ours."""
+    said, ratios, spent = targets(), {}, {}
     lines = [line(heads(counts, quick)), line(["---"] * len(heads(counts, quick)))]
     for job, name, unit, growing in ROWS:
         cells = [name, unit]
         if counts:
-            more, ratios[job] = counted(job, QUICK if quick else COUNTED, said[job][0], quick, growing)
+            more, ratios[job], spent[job] = counted(job, QUICK if quick else COUNTED, said[job][0], quick, growing)
             cells += more
         if NATIVE and not quick:
             cells += timed(job)
         lines.append(line(cells))
-    return lines, ratios
+    return lines, ratios, spent
 
 
 def processor():
@@ -183,16 +183,16 @@ def write(lines):
 
 def main(words):
     quick, counts = "quick" in words, os.path.exists(PLUGIN)
-    lines, ratios = table(quick, counts)
+    lines, ratios, spent = table(quick, counts)
     lines = [machine(counts), "\n"] + lines + notes(quick, counts, ratios)
     sys.stdout.write("".join(lines))
     if "write" in words:
         write(lines)
     if "check" not in words:
         return 0
-    above = [job for job in ratios if ratios[job] > targets()[job][1]]
+    above = [job for job in spent if spent[job] > targets()[job][1]]
     for job in above:
-        print("bench: %s is at %.3f, above its limit %.3f" % (job, ratios[job], targets()[job][1]))
+        print("bench: %s takes %.2f instructions, above its limit %.2f" % (job, spent[job], targets()[job][1]))
     return 1 if above or not counts else 0
 
 
