@@ -17,9 +17,10 @@ use Rattle.blocks.specs.Headers.{headerByte, swapOf, firstOf, countOf, announce
 use Rattle.blocks.proofs.Places.{stream-past}
 use Rattle.blocks.proofs.Headers.{announced-more, announced-most}
 use Rattle.packets.specs.declared.Packet.{Packet}
-use Rattle.packets.specs.Packet.{readSize, packetByte, carryAfter, from, fileCount, IsPacket}
+use Rattle.packets.specs.Packet.{readSize, packetByte, carryAfter, from, IsPacket}
 use Rattle.packets.specs.Gathered.{bytesOf}
 use Rattle.packets.specs.Walk.{Walk, steps}
+use Rattle.packets.proofs.Packets.{count-whole}
 use Rattle.packets.proofs.Longer.{Agree}
 use Rattle.packets.proofs.Gathered.{gathered}
 use Rattle.packets.proofs.Start.{start-most}
@@ -43,11 +44,6 @@ use Rattle.hold.proofs.Headers.{start-least}
 use Rattle.hold.proofs.Partwise.{onward, onward-is, part-of-walk}
 use Rattle.hold.proofs.Adding.{payload-is, numbers, byte-0, first-now, due-now, added}
 use Rattle.hold.proofs.DssBlock.{dss-waits, still-read}
-
--- a read that ends inside a stream is counted in full
-complete-count : (long : ℕ) (swap : Bool) (q : ℕ) → q + readSize swap ≤ long → readSize swap ≡ fileCount long swap q
-unfolding fileCount
-complete-count long swap q h = omega arith
 
 -- what `source_packet` ensures
 abbrev IsRead : List ℕ → Walk → Packet → Type 0
@@ -146,7 +142,7 @@ module _ (source : List ℕ) (at base : ℕ) where
                 → IsPacket s long (v .swap) (v .carry) (inStream v .place) in-stream
             packet s long bears room =
                 gathered s long (v .swap) (v .carry) (inStream v .place) source (v .place) in-stream (agree s bears) (is .0)
-                (is .1 ∙ complete-count long (v .swap) (inStream v .place) (omega (arith, read-inside, r .begun)))
+                (is .1 ∙ sym (count-whole long (v .swap) (inStream v .place) (omega (arith, read-inside, r .begun))))
                 (is .2) (omega (arith, is .3, r .begun))
 
 -- past the end of a stream nothing is held, however many blocks it has

@@ -1,22 +1,18 @@
--- Whole and short, counts and carries; and that two packets of one read are the same.
+-- Whole and short; and that two packets of one read are the same.
 -- Assumes nothing.
 use Prim.Native.Nat.{ℕ, _+_, _-_, _≤_, _<_, min}
-use mathlib.Core.Path.{_≡_, refl}
+use mathlib.Core.Path.{_≡_}
 use mathlib.Core.List.{List}
 use mathlib.Core.Bool.{Bool, true, false}
 use native.Mathlib.Omega.{arith}
 use borrow.Author.Tests.{eq-eqb, eqb-true, eqb-false}
 use Rattle.tables.proofs.Cases.{by-order}
 use Rattle.packets.specs.declared.Packet.{Packet}
-use Rattle.packets.specs.Packet.{readSize, carryAfter, fileCount, isWhole, IsPacket}
+use Rattle.packets.specs.Packet.{readSize, fileCount, isWhole, IsPacket}
 
 pub read-most : (swap : Bool) → readSize swap ≤ 42
 read-most true = omega arith
 read-most false = omega arith
-
-pub count-most : (n : ℕ) (swap : Bool) (q : ℕ) → fileCount n swap q ≤ 42
-unfolding fileCount
-count-most n swap q = omega (arith, read-most swap)
 
 -- a packet is whole exactly when its read is complete
 pub whole-says : (n : ℕ) (swap : Bool) (q : ℕ) → isWhole n swap q ≡ true → q + readSize swap ≤ n
@@ -39,23 +35,10 @@ short-says n swap q e =
     let less : min (readSize swap) (n - q) ≡ readSize swap → ⊥ = eqb-false (min (readSize swap) (n - q)) (readSize swap) e in
     by-order n (q + readSize swap) (λ h. h) (λ h. absurd (less (omega arith)))
 
--- a whole packet's count is its read size, a short one's what the stream has left
+-- a whole packet's count is its read size
 pub count-whole : (n : ℕ) (swap : Bool) (q : ℕ) → q + readSize swap ≤ n → fileCount n swap q ≡ readSize swap
 unfolding fileCount
 count-whole n swap q h = omega arith
-
-pub count-short : (n : ℕ) (swap : Bool) (q : ℕ) → n ≤ q + readSize swap → fileCount n swap q ≡ n - q
-unfolding fileCount
-count-short n swap q h = omega arith
-
--- a swapped read carries on what it was given, an unswapped one its byte 40
-pub carry-kept : (carry : ℕ) (c : ℕ → ℕ) → carryAfter true carry c ≡ carry
-unfolding carryAfter
-carry-kept carry c = refl
-
-pub carry-new : (carry : ℕ) (c : ℕ → ℕ) → carryAfter false carry c ≡ c 40
-unfolding carryAfter
-carry-new carry c = refl
 
 -- two packets that a read may give are the same
 packet : List ℕ → ℕ → ℕ → ℕ → Packet

@@ -7,7 +7,7 @@ use native.Mathlib.Nat.{not-suc-le-zero}
 use native.Mathlib.Omega.{arith}
 use borrow.Author.Tests.{lt-ltb, le-ltb}
 use Rattle.tables.proofs.Cases.{by-order}
-use Rattle.packets.specs.Walk.{Walk, step, steps, reach, parity}
+use Rattle.packets.specs.Walk.{Walk, step, steps}
 use Rattle.packets.proofs.Walk.{steps-none, steps-more, steps-place, steps-swap}
 use Rattle.sp.specs.declared.Run.{Run}
 use Rattle.sp.specs.Runs.{runBegin, runEnd, packetsIn, standsAt}
@@ -76,13 +76,7 @@ module _ (s : ℕ → ℕ) where
       ∙ ap (standsAt s (runEnd s carry run .carry) (rest ++ ys)) left
       ∙ stands-after (runEnd s carry run .carry) rest ys k
 
--- where a run's reads end, and with what parity: neither stream nor carry matters
-pub run-ends-at : (s : ℕ → ℕ) (carry : ℕ) (run : Run)
-    → (runEnd s carry run .place ≡ run .start .0 + reach (run .swap) (run .count)) × (runEnd s carry run .swap ≡ parity (run .swap) (run .count))
-run-ends-at s carry run =
-    (steps-place s (runBegin carry run) (run .count), steps-swap s (runBegin carry run) (run .count))
-
--- nor for where a packet is read
+-- neither stream nor carry matters for where a packet is read
 pub reads-fixed : (s t : ℕ → ℕ) (carry other : ℕ) (runs : List Run) (k : ℕ)
     → (standsAt s carry runs k .place ≡ standsAt t other runs k .place) × (standsAt s carry runs k .swap ≡ standsAt t other runs k .swap)
 unfolding standsAt
