@@ -1,5 +1,5 @@
--- A run handed out of a hold, packet by packet: where the walk stands is known of any hold, and what is written of one that has a
--- stream's bytes. Assumes nothing.
+-- A run handed out packet by packet from bytes that some streams have, of which all is known by `Over`: where the walk stands is known
+-- anyway, and what is written of each such stream. Assumes nothing.
 use Prim.Native.Nat.{ℕ, _+_, _*_, _≤_, _<_}
 use mathlib.Core.Path.{_≡_, refl, _∙_}
 use mathlib.Core.List.{List}
@@ -13,9 +13,8 @@ use Rattle.packets.specs.Walk.{Walk}
 use Rattle.packets.proofs.Packets.{read-most}
 use Rattle.sp.specs.Written.{RunWritten}
 use Rattle.sp.proofs.Written.{Running, run-begins, run-goes-on, run-ends}
-use Rattle.hold.specs.Held.{Holds}
 
-module _ (hold : List ℕ) (begin long : ℕ) (w : Walk) (number : ℕ) (out counts : List ℕ) where
+module _ (Over : (ℕ → ℕ) → Type 0) (begin long : ℕ) (w : Walk) (number : ℕ) (out counts : List ℕ) where
   -- after n of the run's packets
   pub record Handing (count n : ℕ) (v : Walk) (out′ counts′ : List ℕ) : Type 0 where
     pub within : n ≤ count
@@ -23,7 +22,7 @@ module _ (hold : List ℕ) (begin long : ℕ) (w : Walk) (number : ℕ) (out cou
     pub near : v .place ≤ w .place + 42 * n
     pub out-long : length out′ ≡ length out
     pub counts-long : length counts′ ≡ length counts
-    pub running : (s : ℕ → ℕ) → Holds s long begin hold → Running s long w number out counts count n v out′ counts′
+    pub running : (s : ℕ → ℕ) → Over s → Running s long w number out counts count n v out′ counts′
 
   pub handing-begins : (count : ℕ) → begin ≤ w .place → Handing count 0 w out counts
   handing-begins count h =
@@ -33,12 +32,12 @@ module _ (hold : List ℕ) (begin long : ℕ) (w : Walk) (number : ℕ) (out cou
         near = omega arith;
         out-long = refl;
         counts-long = refl;
-        running = λ s holds. run-begins s long w number out counts count;
+        running = λ s over. run-begins s long w number out counts count;
       }
 
   pub handing-goes-on : (count n : ℕ) (v : Walk) (p : Packet) (out₁ out₂ counts₁ counts₂ : List ℕ) → n < count → Handing count n v out₁ counts₁
       → p .next .0 ≡ v .place + readSize (v .swap)
-      → ((s : ℕ → ℕ) → Holds s long begin hold → IsPacket s long (v .swap) (v .carry) (v .place) p)
+      → ((s : ℕ → ℕ) → Over s → IsPacket s long (v .swap) (v .carry) (v .place) p)
       → Leaves out₁ (42 * (number + n)) 42 (λ i. getD (p .bytes) i 0) out₂
       → Leaves counts₁ (number + n) 1 (λ i. p .count) counts₂
       → Handing count (n + 1) (record { place = p .next .0; carry = p .carry; swap = not (v .swap) }) out₂ counts₂
@@ -49,9 +48,9 @@ module _ (hold : List ℕ) (begin long : ℕ) (w : Walk) (number : ℕ) (out cou
         near = omega (arith, r .near, read-most (v .swap));
         out-long = bytes .long ∙ r .out-long;
         counts-long = one .long ∙ r .counts-long;
-        running = λ s holds. run-goes-on s long w number out counts count n v p out₁ out₂ counts₁ counts₂ h (r .running s holds) (is s holds) bytes one;
+        running = λ s over. run-goes-on s long w number out counts count n v p out₁ out₂ counts₁ counts₂ h (r .running s over) (is s over) bytes one;
       }
 
   pub handing-ends : {count n : ℕ} {v : Walk} {out′ counts′ : List ℕ} → count ≤ n → Handing count n v out′ counts′
-      → (s : ℕ → ℕ) → Holds s long begin hold → RunWritten s long w number count out out′ counts counts′ (v .carry)
-  handing-ends h r s holds = run-ends s long w number out counts h (r .running s holds)
+      → (s : ℕ → ℕ) → Over s → RunWritten s long w number count out out′ counts counts′ (v .carry)
+  handing-ends h r s over = run-ends s long w number out counts h (r .running s over)

@@ -3,26 +3,21 @@
 use Prim.Native.Nat.{ℕ, _+_, _*_, _-_, _/_, _^_, _≤_, _<_}
 use mathlib.Core.Path.{_≡_, sym, ap, _∙_, subst}
 use mathlib.Core.List.{List}
-use mathlib.Core.Bool.{Bool, true, false, not, cond}
+use mathlib.Core.Bool.{Bool, true, false, cond}
 use native.Mathlib.Omega.{arith}
 use borrow.Author.Tests.{le-leb, leb-true, le-ltb, eq-eqb, ne-eqb}
-use lib.ListN.{length, getD}
+use lib.ListN.{getD}
 use lib.Dec.{eqb, leb}
-use Rattle.tables.specs.Table.{table}
-use Rattle.tables.specs.Lent.{Leaves}
 use Rattle.tables.proofs.Cases.{by-order, by-equal}
 use Rattle.tables.proofs.Table.{same-table}
 use Rattle.blocks.specs.Places.{streamAt, blockAt}
 use Rattle.blocks.specs.Headers.{headerByte, swapOf, firstOf, countOf, announcedIn}
 use Rattle.blocks.proofs.Places.{stream-past}
 use Rattle.blocks.proofs.Headers.{announced-more, announced-most}
-use Rattle.packets.specs.declared.Packet.{Packet}
-use Rattle.packets.specs.Packet.{readSize, packetByte, carryAfter, from, IsPacket}
+use Rattle.packets.specs.Packet.{readSize, from}
 use Rattle.packets.specs.Gathered.{bytesOf}
 use Rattle.packets.specs.Walk.{Walk, steps}
-use Rattle.packets.proofs.Packets.{count-whole}
 use Rattle.packets.proofs.Longer.{Agree}
-use Rattle.packets.proofs.Gathered.{gathered}
 use Rattle.packets.proofs.Start.{start-most}
 use Rattle.packets.proofs.Walk.{steps-none}
 use Rattle.sp.specs.declared.Run.{Run}
@@ -32,10 +27,9 @@ use Rattle.sp.specs.Readings.{walkAt}
 use Rattle.sp.specs.Written.{RunWritten}
 use Rattle.sp.proofs.Runs.{carryPast}
 use Rattle.sp.proofs.ReadLists.{dss-stands}
-use Rattle.sp.proofs.Written.{Running, run-begins, run-goes-on, run-ends}
 use Rattle.hold.specs.declared.Standing.{Standing}
 use Rattle.hold.specs.Ready.{readingIn, endsAt, readIn, front, ready}
-use Rattle.hold.specs.Held.{heldFrom, baseAt, headersFrom, waitingAt}
+use Rattle.hold.specs.Held.{Bears, heldFrom, baseAt, headersFrom, waitingAt}
 use Rattle.hold.specs.Parts.{PartWritten}
 use Rattle.hold.specs.Between.{holdAt, brought, Next, Added}
 use Rattle.hold.proofs.Leading.{never}
@@ -43,107 +37,36 @@ use Rattle.hold.proofs.Ready.{run-complete, front-within, dss-exactly, 
 use Rattle.hold.proofs.Headers.{start-least}
 use Rattle.hold.proofs.Partwise.{onward, onward-is, part-of-walk}
 use Rattle.hold.proofs.Adding.{payload-is, numbers, byte-0, first-now, due-now, added}
+use Rattle.hold.proofs.Handed.{Handing}
 use Rattle.hold.proofs.DssBlock.{dss-waits, still-read}
 
--- what `source_packet` ensures
-abbrev IsRead : List ℕ → Walk → Packet → Type 0
-IsRead source v p =
-    (p .bytes ≡ table 42 (packetByte (v .swap) (v .carry) (from (bytesOf source) (v .place))))
-    × (p .count ≡ readSize (v .swap))
-    × (p .carry ≡ carryAfter (v .swap) (v .carry) (from (bytesOf source) (v .place)))
-    × (p .next .0 ≡ v .place + readSize (v .swap))
+-- one stream that has the payload which a source has
+source-stream : List ℕ → ℕ → ℕ → ℕ → ℕ
+source-stream source at base q = getD source (at + (q - base)) 0
 
-module _ (source : List ℕ) (at base : ℕ) where
-  -- a stream has a payload from a base on, whose bytes stand in the source
-  abbrev pub Bears : (ℕ → ℕ) → Type 0
-  Bears s = (i : ℕ) → i < 506 → s (base + i) ≡ getD source (at + i) 0
+source-bears : (source : List ℕ) (at base : ℕ) → Bears source at base (source-stream source at base)
+unfolding source-stream
+source-bears source at base i h = let place : base + i - base ≡ i = omega arith in ap (λ (k : ℕ). getD source (at + k) 0) place
 
-  -- one such stream
-  source-stream : ℕ → ℕ
-  source-stream q = getD source (at + (q - base)) 0
+-- the next read of a run that ends inside the payload does so too
+pub read-inside : (source : List ℕ) (at base : ℕ) (run : Run) (carry number : ℕ) (out counts : List ℕ) {n : ℕ} {v : Walk} {out₁ counts₁ : List ℕ}
+    → Handing (Bears source at base) base (base + 506) (runBegin carry run) number out counts (run .count) n v out₁ counts₁
+    → n < run .count
+    → endsAt run ≤ base + 506
+    → v .place + readSize (v .swap) ≤ base + 506
+read-inside source at base run carry number out counts {n} r more ends =
+    let s = source-stream source at base in
+    let stands = r .running s (source-bears source at base) .stands in
+    let last = run-complete s carry (base + 506) run n more ends in
+    omega (arith, last, ap (λ (u : Walk). u .place + readSize (u .swap)) stands)
 
-  source-bears : Bears source-stream
-  unfolding source-stream
-  source-bears i h = let place : base + i - base ≡ i = omega arith in ap (λ (k : ℕ). getD source (at + k) 0) place
-
-  -- where a walk over the source stands in such a stream
-  abbrev inStream : Walk → Walk
-  inStream v = record { place = base + (v .place - at); carry = v .carry; swap = v .swap }
-
-  module _ (run : Run) (carry number : ℕ) (out counts : List ℕ) where
-    -- after n of the run's packets, v being the walk by places of the source: what is written, for any such stream
-    pub record Through (n : ℕ) (v : Walk) (out′ counts′ : List ℕ) : Type 0 where
-      pub begun : at ≤ v .place
-      pub running : (s : ℕ → ℕ) (long : ℕ) → Bears s → base + 506 ≤ long
-          → Running s long (runBegin carry run) number out counts (run .count) n (inStream v) out′ counts′
-
-    -- before the first packet the walk stands at the run's start
-    pub through-begins : base ≤ run .start .0
-        → Through 0 (record { place = at + (run .start .0 - base); carry = carry; swap = run .swap }) out counts
-    through-begins h =
-        record {
-          begun = omega arith;
-          running = λ s long bears room.
-              let front : run .start .0 ≡ base + (at + (run .start .0 - base) - at) = omega arith in
-              subst
-              (λ (q : ℕ).
-              Running s long (runBegin carry run) number out counts (run .count) 0 (record { place = q; carry = carry; swap = run .swap }) out counts)
-              front (run-begins s long (runBegin carry run) number out counts (run .count));
-        }
-
-    module _ {n : ℕ} {v : Walk} {out₁ counts₁ : List ℕ} (r : Through n v out₁ counts₁) where
-      -- so it is for the stream that the source is
-      run-here : Running source-stream (base + 506) (runBegin carry run) number out counts (run .count) n (inStream v) out₁ counts₁
-      run-here = r .running source-stream (base + 506) source-bears (omega arith)
-
-      -- there is as much room as there was
-      pub through-long : (length out₁ ≡ length out) × (length counts₁ ≡ length counts)
-      through-long = (run-here .written .packets-are .long, run-here .written .counts-are .long)
-
-      -- after the last packet the run is written
-      pub through-ends : run .count ≤ n → (s : ℕ → ℕ) (long : ℕ) → Bears s → base + 506 ≤ long
-          → RunWritten s long (runBegin carry run) number (run .count) out out₁ counts counts₁ (v .carry)
-      through-ends all s long bears room = run-ends s long (runBegin carry run) number out counts all (r .running s long bears room)
-
-      module _ (more : n < run .count) (ends : endsAt run ≤ base + 506) where
-        -- the next read ends inside the payload
-        pub read-inside : v .place + readSize (v .swap) ≤ at + 506
-        read-inside =
-            let stands = run-here .stands in
-            let last = run-complete source-stream carry (base + 506) run n more ends in
-            omega (arith, last, r .begun, ap (λ (u : Walk). u .place + readSize (u .swap)) stands)
-
-        -- and with its packet put the walk goes on
-        pub through-goes-on : (p : Packet) {out₂ counts₂ : List ℕ} → IsRead source v p
-            → Leaves out₁ (42 * (number + n)) 42 (λ i. getD (p .bytes) i 0) out₂
-            → Leaves counts₁ (number + n) 1 (λ i. p .count) counts₂
-            → Through (n + 1) (record { place = p .next .0; carry = p .carry; swap = not (v .swap) }) out₂ counts₂
-        through-goes-on p {out₂} {counts₂} is bytes one =
-            record {
-              begun = omega (arith, r .begun, is .3);
-              running = λ s long bears room.
-                  run-goes-on s long (runBegin carry run) number out counts (run .count) n (inStream v) in-stream out₁ out₂ counts₁ counts₂ more
-                  (r .running s long bears room) (packet s long bears room) bytes one;
-            }
-          where
-            -- the packet, with its place in the stream
-            in-stream : Packet
-            in-stream = record { bytes = p .bytes; count = p .count; carry = p .carry; next = record { 0 = base + (p .next .0 - at) } }
-
-            agree : (s : ℕ → ℕ) → Bears s → Agree (from (bytesOf source) (v .place)) (from s (inStream v .place)) (readSize (v .swap))
-            agree s bears j h =
-                let here : v .place + j ≡ at + (v .place - at + j) = omega (arith, r .begun) in
-                let there : base + (v .place - at + j) ≡ base + (v .place - at) + j = omega arith in
-                ap (λ (i : ℕ). getD source i 0) here
-                ∙ sym (bears (v .place - at + j) (omega (arith, read-inside, r .begun)))
-                ∙ ap s there
-
-            packet : (s : ℕ → ℕ) (long : ℕ) → Bears s → base + 506 ≤ long
-                → IsPacket s long (v .swap) (v .carry) (inStream v .place) in-stream
-            packet s long bears room =
-                gathered s long (v .swap) (v .carry) (inStream v .place) source (v .place) in-stream (agree s bears) (is .0)
-                (is .1 ∙ sym (count-whole long (v .swap) (inStream v .place) (omega (arith, read-inside, r .begun))))
-                (is .2) (omega (arith, is .3, r .begun))
+-- the bytes of a read that lies in the payload are the stream's
+pub bears-agree : (source : List ℕ) (at base q : ℕ) (swap : Bool) → base ≤ q → q + readSize swap ≤ base + 506
+    → (s : ℕ → ℕ) → Bears source at base s → Agree (from (bytesOf source) (at + (q - base))) (from s q) (readSize swap)
+bears-agree source at base q swap begun inside s bears j h =
+    let here : at + (q - base) + j ≡ at + (q - base + j) = omega arith in
+    let there : base + (q - base + j) ≡ q + j = omega arith in
+    ap (λ (i : ℕ). getD source i 0) here ∙ sym (bears (q - base + j) (omega arith)) ∙ ap s there
 
 -- past the end of a stream nothing is held, however many blocks it has
 none-held : (f : List ℕ) (a b n : ℕ) → heldFrom (streamAt f a b) (506 * b) ≡ heldFrom (streamAt f a n) (506 * n)
@@ -234,8 +157,8 @@ module _ {b number : ℕ} {hold waiting : List ℕ} {was : Standing} {source : L
       (omega (arith, announced-sum, most, g .few, g .there), omega (arith, ready-sum, ready-after, most, g .few, g .there))
 
   module _ (carry : ℕ) (out out′ counts counts′ : List ℕ)
-      (through : (s : ℕ → ℕ) (long : ℕ) → Bears source (at + 6) (was .base .0) s → was .base .0 + 506 ≤ long
-      → RunWritten s long (runBegin (was .carry) run) number (run .count) out out′ counts counts′ carry) where
+      (through : (s : ℕ → ℕ) → Bears source (at + 6) (was .base .0) s
+      → RunWritten s (was .base .0 + 506) (runBegin (was .carry) run) number (run .count) out out′ counts counts′ carry) where
     -- the recording's stream has the block's payload
     bears : Bears source (at + 6) (was .base .0) (streamAt (g .f) (g .a) (b + 1))
     bears i h =
@@ -251,8 +174,12 @@ module _ {b number : ℕ} {hold waiting : List ℕ} {was : Standing} {source : L
         (brought true (g .f) (g .a) b) number (was .carry) carry out out′ counts counts′ (due-now g .owed) (due-now g .carry-is) stands
         (subst (λ (w : Walk). RunWritten s (506 * (b + 1)) w number (brought true (g .f) (g .a) b) out out′ counts counts′ carry) begins
         (subst (λ (m : ℕ). RunWritten s (506 * (b + 1)) (runBegin (was .carry) run) number m out out′ counts counts′ carry) brought-is
-        (through s (506 * (b + 1)) bears (omega arith))))
+        (subst (λ (long : ℕ). RunWritten s long (runBegin (was .carry) run) number (run .count) out out′ counts counts′ carry) long-is
+        (through s bears))))
       where
+        long-is : was .base .0 + 506 ≡ 506 * (b + 1)
+        long-is = omega arith
+
         begins : runBegin (was .carry) run ≡ onward (runBegin (was .carry) run) 0 (was .carry)
         begins =
             let s = streamAt (g .f) (g .a) (b + 1) in

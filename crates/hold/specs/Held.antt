@@ -1,6 +1,6 @@
 -- What is held between blocks: 12,288 bytes of the payload stream from a base on, and the headers of the blocks that wait.
 -- Assumes nothing.
-use Prim.Native.Nat.{ℕ, _+_, _*_, _/_, _%_, _≤_}
+use Prim.Native.Nat.{ℕ, _+_, _*_, _/_, _%_, _≤_, _<_}
 use mathlib.Core.Path.{_≡_}
 use mathlib.Core.List.{List}
 use mathlib.Core.Bool.{Bool, false, cond}
@@ -21,6 +21,10 @@ pub record Holds (s : ℕ → ℕ) (long base : ℕ) (hold : List ℕ) : Type 0 
   pub hold-is : hold ≡ heldFrom s base
   pub past : (q : ℕ) → long ≤ q → s q ≡ 0
   pub within : long ≤ base + 12288
+
+-- a source has, from a place on, the payload that a stream s has from a base on
+abbrev pub Bears : List ℕ → ℕ → ℕ → (ℕ → ℕ) → Type 0
+Bears source at base s = (i : ℕ) → i < 506 → s (base + i) ≡ getD source (at + i) 0
 
 -- where the hold begins after n blocks: DS2, at the next read; DSS, with the payload of the first block that waits
 unfoldable pub baseAt : Bool → List ℕ → ℕ → ℕ → ℕ

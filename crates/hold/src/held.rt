@@ -1,4 +1,4 @@
-// Packets from the hold, which has the stream's bytes from a base on. For the rest of this crate.
+// Packets from the hold, which has the stream's bytes from a base on, or from a payload where it stands. For the rest of this crate.
 // Rests on packets, for a packet from bytes that lie together, on sp, for runs and where a packet is put, and on tables.
 use blocks::StreamPlace;
 use packets::Packet;
@@ -7,12 +7,11 @@ ghost use mathlib.Core.Path.{_≡_};
 ghost use Prim.Native.Nat.{ℕ, _+_, _*_, _≤_, _<_, _^_};
 ghost use lib.ListN.{length, getD};
 ghost use Rattle.tables.specs.Table.{table};
-ghost use Rattle.packets.specs.Packet.{readSize, packetByte, carryAfter, from, IsPacket};
-ghost use Rattle.packets.specs.Gathered.{bytesOf};
+ghost use Rattle.packets.specs.Packet.{readSize, IsPacket};
 ghost use Rattle.sp.specs.Runs.{runBegin};
 ghost use Rattle.sp.specs.Written.{RunWritten};
 ghost use Rattle.hold.specs.Ready.{endsAt};
-ghost use Rattle.hold.specs.Held.{Holds};
+ghost use Rattle.hold.specs.Held.{Holds, Bears};
 
 // A read that begins here in the hold, or before, lies in it whatever its parity: 12,288 less 42.
 const LAST_INSIDE: usize = 12246;
@@ -104,24 +103,32 @@ pub fn write_held(
     carried
 }
 
-// The packet of a read that lies in a source.
-fn source_packet(source: &[u8], at: usize, swap: bool, carry: u8) -> Packet
-    requires { ⌜ at + readSize swap ≤ length (now source) ⌝ }
-    ensures { λ r. ⌜ (r .bytes ≡ table 42 (packetByte swap carry (from (bytesOf (now (source .entry))) at))) × (r .count ≡ readSize swap) × (r .carry ≡ carryAfter swap carry (from (bytesOf (now (source .entry))) at)) × (r .next .0 ≡ at + readSize swap) ⌝ }
+// The packet that a read at q gives, which lies in one payload: 506 bytes of a source from a place on, the stream's from a base on.
+fn source_packet(
+    source: &[u8],
+    at: usize,
+    base: StreamPlace,
+    q: StreamPlace,
+    swap: bool,
+    carry: u8,
+) -> Packet
+    requires { ⌜ (at + 506 ≤ length (now source)) × (base .0 ≤ q .0) × (q .0 + readSize swap ≤ base .0 + 506) × (q .0 < 2 ^ 62) ⌝ }
+    ensures { λ r. ⌜ (r .next .0 ≡ q .0 + readSize swap) × ((s : ℕ → ℕ) → Bears (now (source .entry)) at (base .0) s → IsPacket s (base .0 + 506) swap carry (q .0) r) ⌝ }
 {
+    let place = q.0;
     let size = packets::read_size(swap);
-    let bytes = packets::packet_bytes(source, at, swap, carry);
-    let after = packets::carry_after(source, at, swap, carry);
+    let here = at + (place - base.0);
+    let bytes = packets::packet_bytes(source, here, swap, carry);
+    let after = packets::carry_after(source, here, swap, carry);
     Packet {
         bytes,
         count: size as u8,
         carry: after,
-        next: StreamPlace(at + size),
+        next: StreamPlace(place + size),
     }
 }
 
-// Hands out, as write_held does, the packets of a run whose reads all lie in one payload: 506 bytes of a source from a place on, which
-// are the stream's from a base on.
+// Hands out, as write_held does, the packets of a run whose reads all lie in one payload.
 pub fn write_through(
     source: &[u8],
     at: usize,
@@ -135,18 +142,17 @@ pub fn write_through(
     requires inside { ⌜ (at + 506 ≤ length (now source)) × (base .0 ≤ run .start .0) × (endsAt run ≤ base .0 + 506) ⌝ }
     requires near { ⌜ (run .start .0 ≤ 2 ^ 48) × (run .count ≤ 2 ^ 48) ⌝ }
     requires room { ⌜ (42 * (number + run .count) ≤ length (now out)) × (number + run .count ≤ length (now counts)) ⌝ }
-    ensures { λ r. ⌜ ((s : ℕ → ℕ) (long : ℕ) → ((i : ℕ) → i < 506 → s (base .0 + i) ≡ getD (now (source .entry)) (at + i) 0) → base .0 + 506 ≤ long → RunWritten s long (runBegin carry run) number (run .count) (now (out .entry)) (now (out .exit)) (now (counts .entry)) (now (counts .exit)) r) ⌝ }
+    ensures { λ r. ⌜ ((s : ℕ → ℕ) → Bears (now (source .entry)) at (base .0) s → RunWritten s (base .0 + 506) (runBegin carry run) number (run .count) (now (out .entry)) (now (out .exit)) (now (counts .entry)) (now (counts .exit)) r) ⌝ }
 {
     let count = run.count;
     let begin = base.0;
-    let start = run.start.0;
-    let mut place = at + (start - begin);
+    let mut place = run.start;
     let mut swap = run.swap;
     let mut carried = carry;
     let mut n: usize = 0;
     while n < count {
-        let packet = source_packet(source, place, swap, carried);
-        place = packet.next.0;
+        let packet = source_packet(source, at, StreamPlace(begin), place, swap, carried);
+        place = packet.next;
         carried = packet.carry;
         swap = !swap;
         let here = number + n;

@@ -4,9 +4,8 @@ use Prim.Native.Nat.{ℕ, _+_, _*_, _-_, _≤_}
 use mathlib.Core.Path.{_≡_}
 use mathlib.Core.List.{List, []}
 use mathlib.Core.Bool.{Bool, true, not, cond}
-use lib.ListN.{length, getD}
+use lib.ListN.{length}
 use lib.Dec.{eqb, leb}
-use Rattle.tables.specs.Table.{table}
 use Rattle.blocks.specs.Places.{limit, wholeBlocks, blockAt}
 use Rattle.blocks.specs.Headers.{Bytes, announcedIn}
 use Rattle.sp.specs.Readings.{Reading}

@@ -2,6 +2,7 @@
 -- Assumes nothing.
 use Prim.Native.Nat.{_-_}
 use native.Mathlib.Omega.{arith}
+use Rattle.hold.specs.Held.{Holds}
 use Rattle.hold.proofs.Handed.{Handing, handing-begins, handing-goes-on, handing-ends}
 use borrow.Author.Needs.{needs}
 use Rattle.hold.proofs.held.write_held.Statement.{statement}
@@ -9,7 +10,7 @@ use Rattle.hold.proofs.held.write_held.Tie as tie
 
 abbrev Inv-loop : tie.InvT-loop
 Inv-loop hold long carry number out₀ counts₀ count begin place₀ swap₀ carried₀ n₀ out counts place swap carried n =
-    Handing hold begin long (record { place = place₀ .0; carry = carried₀; swap = swap₀ }) number out₀ counts₀ count n
+    Handing (λ s. Holds s long begin hold) begin long (record { place = place₀ .0; carry = carried₀; swap = swap₀ }) number out₀ counts₀ count n
     (record { place = place .0; carry = carried; swap = swap }) out counts
 
 abbrev μ-loop : tie.MeasureT-loop
