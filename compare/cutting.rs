@@ -33,15 +33,11 @@ fn qp(file: &[u8], rows: &[model::Segment], theirs: &[Vec<u8>], dice: &mut Dice,
     let mut list = theirs.iter();
     for row in rows {
         let (start, length) = (row.start as u64, row.length as u64);
-        let mut missing = 0;
         for k in 0..row.frames as u64 {
             let seen = ours::frame(start, length, k);
             let (place, size) = model::frame(start, length, k);
             if size == 0 {
-                missing += 1;
-                if missing <= 2 || k + 1 == row.frames as u64 {
-                    score.named(Name::MissingFrames, "frame", [0; 4], seen);
-                }
+                score.named(Name::MissingFrames, "frame", [0; 4], seen);
                 continue;
             }
             score.model("frame", [0, 0, place, size], seen);
@@ -57,7 +53,9 @@ fn qp(file: &[u8], rows: &[model::Segment], theirs: &[Vec<u8>], dice: &mut Dice,
 
 /// Every record by its place: two bytes first, and then as many as they say.
 fn qp7(file: &[u8], records: &[(usize, usize)], theirs: &[Vec<u8>], dice: &mut Dice, score: &mut Score) {
-    score.original("fetch", theirs.len(), records.len());
+    if theirs.len() != records.len() {
+        score.wrong("fetch", "the model and the original differ in the records");
+    }
     for (&(place, size), record) in records.iter().zip(theirs) {
         if records.len() <= MOST || dice.below(records.len()) < MOST {
             part(file, place, 2, Some(&record[..2].to_vec()), dice, score);

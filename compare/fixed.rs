@@ -1,5 +1,5 @@
 // The worked examples of the format's description and the listing's file, with the numbers written out by hand, and recordings at an edge:
-// counts of 255, rooms by the byte, sizes one short, pieces of one byte. It rests on the comparisons of a whole file and of its pieces.
+// counts of 255, rooms by the byte, sizes one short, pieces of one byte, blocks that wait, a full hold. It rests on the comparisons of a whole file and of its pieces.
 use crate::both::Both;
 use crate::common::files::{self, Dice};
 use crate::lent::Lent;
@@ -64,6 +64,8 @@ pub fn compare(score: &mut Score) {
     listing(score);
     edges(score);
     byte_by_byte(score);
+    waiting(score);
+    held(score);
     let dice = &mut Dice::new(5);
     score.file("kinds that there are not");
     (0..200).for_each(|_| ends::no_such_kind(dice, score));
@@ -168,5 +170,40 @@ fn byte_by_byte(score: &mut Score) {
         let bytes: Vec<&[u8]> = if blocks == 1 { with_empty } else { file.chunks(1).collect() };
         score.file(format_args!("byte by byte, kind {number}"));
         pieces::fed(&both, number, &bytes, dice, score);
+    }
+}
+
+/// Given block by block, and in the dice's cuts.
+fn by_blocks(name: &str, file: &[u8], start: usize, number: u64, dice: &mut Dice, score: &mut Score) {
+    let both = Both::new(file);
+    let blocks: Vec<&[u8]> = std::iter::once(&file[..start]).chain(file[start..].chunks(512)).collect();
+    score.file(name);
+    pieces::fed(&both, number, &blocks, dice, score);
+    pieces::fed(&both, number, &files::few_pieces(file, dice), dice, score);
+}
+
+/// DSS blocks behind one that announces 255: as many wait as ever do, and then leave together.
+fn waiting(score: &mut Score) {
+    let dice = &mut Dice::new(13);
+    for (flag, first) in [(0x0F, 3), (0x8F, 3), (0x0F, 255), (0x8F, 255)] {
+        for behind in 19..=25 {
+            let mut heads = vec![[flag, first, 255, 0xFF, 0, 0xFF]];
+            heads.extend((0..behind).map(|_| [dice.pick(&[0x0F, 0x8F]), dice.byte(), dice.pick(&[0, 5, 12]), 0xFF, 0, 0xFF]));
+            let file = files::recording(b"\x02dss", 1024, &heads, dice);
+            by_blocks("blocks that wait", &file, 1024, 2, dice, score);
+        }
+    }
+}
+
+/// DS2 blocks that announce nothing behind one that does, up to where the hold is full: with 231 packets from a swapped read on, to its last byte.
+fn held(score: &mut Score) {
+    let dice = &mut Dice::new(17);
+    for flag in [0x0F, 0x8F] {
+        for count in [0, 1, 12, 230, 231, 232, 255] {
+            let mut heads = vec![[flag, 3, count, 0xFF, 0, 0xFF]];
+            heads.resize(50, [0x0F, 3, 0, 0xFF, 0, 0xFF]);
+            let file = files::recording(b"\x01ds2", 1536, &heads, dice);
+            by_blocks("a full hold", &file, 1536, 0, dice, score);
+        }
     }
 }

@@ -74,9 +74,8 @@ fn in_pieces(number: u64, file: &[u8], beside: bool, dice: &mut Dice, score: &mu
     }
     let owed = run.owed() as u64;
     run.refuse(Name::Limit, [2, LIMIT as u64, 0, owed], &[0], (84, 2), score);
-    score.model("piece", run.given, LIMIT);
-    let packets = run.handed();
+    let (packets, theirs) = (run.handed(), run.theirs.is_some());
     ends::all(&mut run, dice, score);
-    let (with, seconds) = (if beside { "beside" } else { "without" }, begun.elapsed().as_secs_f64());
+    let (with, seconds) = (if theirs { "beside" } else { "without" }, begun.elapsed().as_secs_f64());
     println!("  kind {number} in pieces of {size} bytes, {packets} packets, {with} the original: {seconds:.1} s");
 }

@@ -52,6 +52,10 @@ fn lacking(rows: usize, words: usize, dice: &mut Dice) -> usize {
     dice.pick(&[rows * words - 1, words * (rows - 1), 0, some])
 }
 
+fn qp_words(rows: &[model::Segment]) -> Vec<u32> {
+    rows.iter().flat_map(|row| [row.start as u32, row.length as u32, row.frames as u32, u32::from(row.reset)]).collect()
+}
+
 fn ask_qp(file: &[u8], words: usize) -> (Numbers, Lent<u32>) {
     let mut table = Lent::new(words);
     let numbers = ours::demux_ds2_qp(file, table.part());
@@ -70,8 +74,7 @@ fn qp(both: &Both, dice: &mut Dice, score: &mut Score) {
     }
     let start = both.kind.map_or(0, |(_, start)| start);
     let rows = model::qp(both.file, start);
-    let words: Vec<u32> =
-        rows.iter().flat_map(|row| [row.start as u32, row.length as u32, row.frames as u32, u32::from(row.reset)]).collect();
+    let words = qp_words(&rows);
     let announced = model::announced(both.file, start);
     let (numbers, mut table) = ask_qp(both.file, ample(rows.len(), 4, dice));
     score.model(CALL, ([0, 0, rows.len() as u64, announced as u64], true), (numbers, table.holds(&words)));
@@ -147,19 +150,26 @@ fn qp7(both: &Both, dice: &mut Dice, score: &mut Score) {
         }
         (Err(refusal), Some(Err(theirs))) => {
             score.original(CALL, (ours::refused(*theirs), true), nothing(room));
-            score.model(CALL, refusal, *theirs);
+            if refusal != *theirs {
+                score.wrong(CALL, "the model and the original differ in the refusal");
+            }
         }
         _ => score.wrong(CALL, "the original and the description differ in whether the records can be read"),
     }
 }
 
-fn read_qp7(file: &[u8], rows: &[model::Records], theirs: &original::Told<DemuxedDs2>, room: (usize, usize), score: &mut Score) {
-    let places: Vec<u32> = rows.iter().flat_map(|row| row.records.iter().map(|&(place, _)| place as u32)).collect();
+/// The records' places, and the words of the segments.
+fn qp7_words(rows: &[model::Records]) -> (Vec<u32>, Vec<u32>) {
     let mut words = Vec::new();
     for row in rows {
         let first = words.chunks_exact(3).map(|row: &[u32]| row[1]).sum();
         words.extend([first, row.records.len() as u32, u32::from(row.reset)]);
     }
+    (rows.iter().flat_map(|row| row.records.iter().map(|&(place, _)| place as u32)).collect(), words)
+}
+
+fn read_qp7(file: &[u8], rows: &[model::Records], theirs: &original::Told<DemuxedDs2>, room: (usize, usize), score: &mut Score) {
+    let (places, words) = qp7_words(rows);
     let (numbers, mut records, mut segments_table) = ask_qp7(file, room);
     let expected = ([0, 0, places.len() as u64, rows.len() as u64], true, true);
     score.model("demux_ds2_qp7", expected, (numbers, records.holds(&places), segments_table.holds(&words)));
@@ -200,27 +210,29 @@ where
 /// Every length of the tables around the one that is needed.
 pub fn rooms(both: &Both, score: &mut Score) {
     if let Ok((Kind::Qp, start)) = both.kind {
-        let rows = model::qp(both.file, start).len();
-        for words in (4 * rows).saturating_sub(5)..4 * rows + 5 {
+        let expected = qp_words(&model::qp(both.file, start));
+        let rows = expected.len() / 4;
+        for words in expected.len().saturating_sub(5)..expected.len() + 5 {
             let (numbers, table) = ask_qp(both.file, words);
             if words / 4 < rows {
                 let expected = ([9, rows as u64, 0, 0], true);
                 score.named(Name::TableRoom, "demux_ds2_qp", expected, (numbers, table.untouched()));
             } else {
                 let announced = model::announced(both.file, start) as u64;
-                score.model("demux_ds2_qp", [0, 0, rows as u64, announced], numbers);
+                score.model("demux_ds2_qp", ([0, 0, rows as u64, announced], true), (numbers, table.holds(&expected)));
             }
         }
     }
     if let Ok((Kind::Qp7, start)) = both.kind {
         if let Ok(rows) = model::qp7(both.file, start) {
-            qp7_rooms(both.file, (rows.iter().map(|row| row.records.len()).sum(), rows.len()), score);
+            qp7_rooms(both.file, qp7_words(&rows), score);
         }
     }
 }
 
-fn qp7_rooms(file: &[u8], (records, rows): (usize, usize), score: &mut Score) {
+fn qp7_rooms(file: &[u8], (expected_places, expected_words): (Vec<u32>, Vec<u32>), score: &mut Score) {
     const CALL: &str = "demux_ds2_qp7";
+    let (records, rows) = (expected_places.len(), expected_words.len() / 3);
     for room in [0, 1, 2].map(|more| (records + more).saturating_sub(1)) {
         for words in (3 * rows).saturating_sub(4)..3 * rows + 4 {
             let (numbers, places, table) = ask_qp7(file, (room, words));
@@ -230,7 +242,8 @@ fn qp7_rooms(file: &[u8], (records, rows): (usize, usize), score: &mut Score) {
             } else if words / 3 < rows {
                 score.named(Name::TableRoom, CALL, ([9, rows as u64, 0, 0], true), seen);
             } else {
-                score.model(CALL, [0, 0, records as u64, rows as u64], numbers);
+                let seen = (numbers, places.holds(&expected_places), table.holds(&expected_words));
+                score.model(CALL, ([0, 0, records as u64, rows as u64], true, true), seen);
             }
         }
     }
