@@ -1,15 +1,14 @@
 """resting.py STATEMENTS FILE [write]: for each declaration that STATEMENTS names, the definitions that its statement cites.
 
 What a theorem says is its type; what a function promises, its contract. Both are read from the sources, with the headers of the modules that a
-theorem stands in, and every name in them that is imported from a specs/ folder is listed with its file. Compares FILE with that
-list, or writes it. Rests on the sources' own layout, which `rt fmt` keeps.
+theorem stands in, and every definition that is named in them is listed with its file. Compares FILE with that list, or writes it. Rests on the sources' own layout, which `rt fmt` keeps.
 """
 import os
 import re
 import sys
 
 NAMED = re.compile(r"`([^`]+)` in `(crates/[^`]+)`")
-IMPORT = re.compile(r"^(?:ghost )?use Rattle·(\w+)(?:·specs\.specs|\.specs)\.([\w.]+)\.\{([^}]*)\}", re.M)
+IMPORT = re.compile(r"^(?:ghost )?use Rattle·(\w+)(?:·\w+)?\.(?:(?:specs|proofs)\.)?(specs|proofs)\.([\w.]+)\.\{([^}]*)\}", re.M)
 WORD = re.compile(r"[^\s(){}⌜⌝,;.\[\]]+")
 DEFINED = r"^ *(?:(?:unfoldable|abbrev) +pub |pub (?:record|data) )"
 HEAD = """# What the statements rest on
@@ -18,7 +17,7 @@ Made from the sources by .ci/resting.py, and compared with them by the gate: for
 its statement cites. To believe a statement is to read these, and what they cite in turn; how it is proved need not be read, as the check has.
 
 Beside the definitions every statement rests on: the logic of the kit, its libraries of lists, numbers and slices, and the check itself. Nothing
-is assumed by this project: it has no axiom and no foreign function of its own, and each file says so in its head. The programs rest, besides, on
+is assumed by this project: it has no axiom and no foreign function of its own, and each file of definitions or laws says so in its head. The programs rest, besides, on
 the contracts that the kit's `io` and `libc` assume of the C library; the archive does not.
 
 """
@@ -30,15 +29,17 @@ def read(path):
 
 
 def imported(text):
-    """The names that a file has from specs/ folders, each with the file it is from."""
+    """The definitions that a file imports, each with the file it is from. Those of specs/ are definitions; of laws, those that are marked so."""
     found = {}
-    for crate, module, names in IMPORT.findall(text):
-        path = f"crates/{crate}/src" if module.startswith("declared") else f"crates/{crate}/specs/{module.split('.')[0]}.antt"
+    for crate, folder, module, names in IMPORT.findall(text):
+        path = f"crates/{crate}/src" if module.startswith("declared") else f"crates/{crate}/{folder}/{module.split('.')[0]}.antt"
+        marked = own(path) if folder == "proofs" and os.path.exists(path) else None
         if not os.path.exists(path):
             path = f"the kit's {crate}"
         for name in names.split(","):
-            words = name.split(" as ")
-            found[words[-1].strip()] = (words[0].strip(), path)
+            words = [word.strip() for word in name.split(" as ")]
+            if folder == "specs" or marked is not None and words[0] in marked:
+                found[words[-1]] = (words[0], path)
     return found
 
 

@@ -1,4 +1,4 @@
-// The recordings that are measured: continuous ones, as a recorder makes them, with nothing cut, the same at every run. It rests on the
+// The recordings that are measured, the same at every run: without a gap, but for DSS, whose packets stay inside their block. It rests on the
 // format's description. The last block announces only what is complete.
 
 pub const BLOCK: usize = 512;

@@ -1,5 +1,5 @@
 // The driver: dss-codec's demux module and the archive in one program, called the same way on the same recording in memory.
-// bench JOB SIZE check | count SIDE REPETITIONS | time REPETITIONS. It rests on the module's own sources, reached by links that bench/run
+// bench JOB SIZE check | count SIDE REPETITIONS | time REPETITIONS. It rests on the module's own sources, reached by links that bench/build
 // makes, and on the crate `ours`.
 mod check;
 #[allow(dead_code)]

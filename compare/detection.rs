@@ -1,4 +1,5 @@
-// The four detection calls, which take anything and refuse nothing. It rests on the original alone; the model's format is looked at too.
+// The four detection calls, which take anything and refuse nothing. It rests on the original, and on the model for
+// what a format is.
 use crate::common::files::Dice;
 use crate::common::model;
 use crate::ours;
