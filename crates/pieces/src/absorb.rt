@@ -61,7 +61,9 @@ fn take_block(
         );
     }
     renew(partial, piece, taken, place);
-    hold::add_block(dss, was, b, hold, waiting, partial, 0, number, out, counts)
+    // a copy, so that nothing is lent of what is kept: the reader is then taken apart by the compiler
+    let block = *partial;
+    hold::add_block(dss, was, b, hold, waiting, &block, 0, number, out, counts)
 }
 
 // For the crates above. Adds all blocks that are whole with the piece, if it is accepted, and keeps the bytes of the one that is not.

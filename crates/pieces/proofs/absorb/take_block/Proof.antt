@@ -35,6 +35,9 @@ returns c =
 renew-requires : tie.Need-renew-requires
 renew-requires c κs = search needs
 
+slice-aggregate-add-block : tie.Need-slice-aggregate-add-block
+slice-aggregate-add-block c = search needs
+
 add-block-requires-2 : tie.Need-add-block-requires-2
 add-block-requires-2 c κs =
     let r = c .before .before .before .before .before .before in
@@ -66,6 +69,7 @@ take-block-spec =
     same-length-2
     returns
     renew-requires
+    slice-aggregate-add-block
     add-block-requires-2
     same-length-3
     same-length-4
