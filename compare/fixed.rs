@@ -1,22 +1,11 @@
 // The worked examples of the format's description and the listing's file, with the numbers written out by hand, and recordings at an edge:
 // counts of 255, rooms by the byte, sizes one short, pieces of one byte, blocks that wait, a full hold. It rests on the comparisons of a whole file and of its pieces.
 use crate::both::Both;
-use crate::common::files::{self, Dice};
+use crate::common::files::{self, file, Dice};
 use crate::lent::Lent;
 use crate::ours;
 use crate::score::Score;
 use crate::{ends, pieces, tables, whole, whole_sp};
-
-/// Magic, zeros to the start, and blocks: a header and the 506 bytes that a function of the place in the payload gives.
-fn file(magic: &[u8; 4], start: usize, headers: &[[u8; 6]], payload: fn(usize) -> u8) -> Vec<u8> {
-    let mut file = magic.to_vec();
-    file.resize(start, 0);
-    for header in headers {
-        file.extend_from_slice(header);
-        file.extend((0..506).map(payload));
-    }
-    file
-}
 
 /// Every comparison, some times over, since rooms and cuts are the dice's, and rooms by the byte.
 fn every(name: &str, file: &[u8], score: &mut Score) {

@@ -1,19 +1,11 @@
 // The worked examples of the format's description, and the listing's file, through the safe calls. It rests on their numbers
 // alone, written out by hand.
+mod common;
+
+use common::files::file;
 use klovdrun::demux::ds2::{self, DemuxedDs2};
 use klovdrun::demux::{detect_format, dss, AudioFormat};
 use klovdrun::{frames, places, tally, FilePlace, Refusal, StreamPlace, Tally, FRAME};
-
-/// Magic, zeros to the start, and blocks: a header and the 506 bytes that a function of the place in the payload gives.
-fn file(magic: &[u8; 4], start: usize, headers: &[[u8; 6]], payload: fn(usize) -> u8) -> Vec<u8> {
-    let mut file = magic.to_vec();
-    file.resize(start, 0);
-    for header in headers {
-        file.extend_from_slice(header);
-        file.extend((0..506).map(payload));
-    }
-    file
-}
 
 fn refusal<T>(number: u64, beside: u64) -> Result<T, Refusal> {
     Err(Refusal { number, beside })

@@ -333,3 +333,14 @@ pub fn few_pieces<'a>(file: &'a [u8], dice: &mut Dice) -> Vec<&'a [u8]> {
     cuts.sort_unstable();
     cuts.windows(2).map(|pair| &file[pair[0]..pair[1]]).collect()
 }
+
+/// Magic, zeros to the start, and blocks: a header and the 506 bytes that a function of the place in the payload gives.
+pub fn file(magic: &[u8; 4], start: usize, headers: &[[u8; 6]], payload: fn(usize) -> u8) -> Vec<u8> {
+    let mut file = magic.to_vec();
+    file.resize(start, 0);
+    for header in headers {
+        file.extend_from_slice(header);
+        file.extend((0..506).map(payload));
+    }
+    file
+}
