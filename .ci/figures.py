@@ -1,4 +1,4 @@
-"""figures.py LOG FILE: writes the project's figures into FILE, docs/PROOFS.md, from the sources and from LOG, which .ci/run left.
+"""figures.py LOG FILE [REMARK]: writes the project's figures into FILE, docs/PROOFS.md, from the sources and from LOG, which .ci/run left.
 
 Lines that are blank or only a comment are not counted. Of a crate's sources, contracts are the lines of `requires` and `ensures`, and code is the
 rest but for what is imported for contracts. Rests on the sources' own layout, which `rt fmt` keeps, and on the lines that rt writes.
@@ -61,7 +61,8 @@ def main():
     told = "\n".join("| " + " | ".join(f"{cell:,}" if isinstance(cell, int) else cell for cell in row) + " |" for row in table)
     parts = "; ".join(f"{what} {seconds} s" for what, seconds in took.items() if what not in ("rt ci", "all"))
     machine = f"{time.strftime('%Y-%m-%d')}, {platform.machine()}, {re.search(r'^gate: cores (.+)$', log, re.M).group(1)} cores"
-    times = f"{machine}: `rt ci` took {took['rt ci']} s, .ci/run in all {took['all']} s ({parts}).\n\n"
+    remark = f" {sys.argv[3]}" if len(sys.argv) > 3 else ""
+    times = f"{machine}: `rt ci` took {took['rt ci']} s, .ci/run in all {took['all']} s ({parts}).{remark}\n\n"
     with open(sys.argv[2], "w", encoding="utf-8") as file:
         file.write(HEAD + times + told + "\n" + TAIL)
     return 0
