@@ -1,11 +1,11 @@
 // One case: its file is made, the calls are asked, and what they answer is held to the list. Rests on all the calls.
+use crate::fed::with_more;
+use crate::fed::with_pieces;
 use crate::list::Number;
 use crate::list::Seen;
 use crate::list::expect;
 use crate::list::next;
 use crate::list::read_to;
-use crate::pieces::with_more;
-use crate::pieces::with_pieces;
 use blocks::FilePlace;
 use blocks::StreamPlace;
 use detect::AudioFormat;

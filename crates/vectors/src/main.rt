@@ -11,7 +11,7 @@ mod list;
 mod calls;
 
 // Reading in pieces.
-mod pieces;
+mod fed;
 
 // Runs through the list. A case has some numbers, so there are no more cases than bytes.
 fn run(list: &[u8]) {
@@ -37,5 +37,5 @@ fn main() {
         return;
     }
     run(&space[..n]);
-    pieces::limit();
+    fed::limit();
 }
