@@ -48,7 +48,7 @@ def main():
     edits = re.findall(r"^rt: must-fail (\w+)/\w+: refused.*?(\d+) s\)$", log, re.M)
     missing = [name for name in names if name not in proved]
     took = {what: int(seconds) for what, seconds in re.findall(r"^gate: (.+) took (\d+) s$", log, re.M)}
-    if missing or "rt ci" not in took or "all" not in took:
+    if missing or "rt ci" not in took:
         print(f"figures: the log lacks {', '.join(missing) or 'the times of the gate'}")
         return 1
     rows = [[name, *crate_figures(name), int(proved[name])] for name in names]
@@ -62,7 +62,8 @@ def main():
     parts = "; ".join(f"{what} {seconds} s" for what, seconds in took.items() if what not in ("rt ci", "all"))
     machine = f"{time.strftime('%Y-%m-%d')}, {platform.machine()}, {re.search(r'^gate: cores (.+)$', log, re.M).group(1)} cores"
     remark = f" {sys.argv[3]}" if len(sys.argv) > 3 else ""
-    times = f"{machine}: `rt ci` took {took['rt ci']} s, .ci/run in all {took['all']} s ({parts}).{remark}\n\n"
+    whole = f", .ci/run in all {took['all']} s ({parts})" if "all" in took else ""
+    times = f"{machine}: `rt ci` took {took['rt ci']} s{whole}.{remark}\n\n"
     with open(sys.argv[2], "w", encoding="utf-8") as file:
         file.write(HEAD + times + told + "\n" + TAIL)
     return 0
