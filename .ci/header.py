@@ -13,7 +13,7 @@ import sys
 SCALARS = {"u8": ("uint8_t", 1), "u32": ("uint32_t", 4), "u64": ("uint64_t", 8), "usize": ("size_t", 8)}
 RATTLE = "crates/klovdrun/src/lib.rt"
 STRUCTS = {"Reader": "crates/reader/src/lib.rt", "Answer": "crates/numbers/src/lib.rt", "Tallied": "crates/numbers/src/lib.rt", "Opened": RATTLE}
-CONSTANTS = {"LIMIT": "blocks", "PACKET": "packets", "FRAME": "frames", "PAYLOAD": "blocks", "BLOCK": "blocks", "HOLD": "hold"}
+CONSTANTS = {"LIMIT": "blocks", "PACKET": "packets", "FRAME": "frames", "PAYLOAD": "blocks", "BLOCK": "blocks", "HOLD": "held"}
 IN_HEADER = ("LIMIT", "PACKET", "FRAME", "PAYLOAD")
 IN_RUST = ("LIMIT", "PACKET", "FRAME", "PAYLOAD", "BLOCK")
 BESIDE = {2: "LIMIT", 7: "HOLD"}  # refusals whose number beside is a constant

@@ -1,20 +1,2 @@
--- The laws and theorems that belong to no one function. They rest on the definitions in specs/.
-pub mod Leading
-pub mod Ready
-pub mod Front
-pub mod Carries
-pub mod Longer
-pub mod Moving
-pub mod Windows
-pub mod Handed
-pub mod Headers
-pub mod Leaving
-pub mod Partwise
-pub mod Walks
-pub mod Queue
-pub mod Numbers
-pub mod Adding
-pub mod Ds2Block
-pub mod DssBlock
-pub mod Passing
+-- The laws that belong to no one function. They rest on the definitions of the crate held.
 pub mod Owing

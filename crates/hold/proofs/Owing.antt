@@ -9,16 +9,16 @@ use Rattle.blocks.specs.Places.{streamAt}
 use Rattle.blocks.specs.Headers.{swapOf, announcedIn}
 use Rattle.blocks.proofs.Places.{stream-past}
 use Rattle.packets.specs.Walk.{reach}
-use Rattle.hold.specs.declared.Standing.{Standing}
-use Rattle.hold.specs.Ready.{readingIn, front, ready}
-use Rattle.hold.specs.Held.{Holds, baseAt, headersFrom}
-use Rattle.hold.specs.Parts.{PartWritten}
-use Rattle.hold.specs.Owed.{Due, Walking, Queued, Owing}
-use Rattle.hold.proofs.Ready.{total-is, front-within, reach-upto, ds2-base}
-use Rattle.hold.proofs.Front.{few-wait}
-use Rattle.hold.proofs.Numbers.{Numbered, numbered, front-is, base-aligned, out-before}
+use Rattle.held.specs.declared.Standing.{Standing}
+use Rattle.held.specs.Ready.{readingIn, front, ready}
+use Rattle.held.specs.Held.{Holds, baseAt, headersFrom}
+use Rattle.held.specs.Parts.{PartWritten}
+use Rattle.held.specs.Owed.{Due, Walking, Queued, Owing}
+use Rattle.held.proofs.Headers.{dss-waits}
+use Rattle.held.proofs.Ready.{total-is, front-within, reach-upto, ds2-base}
+use Rattle.held.proofs.Front.{few-wait}
+use Rattle.held.proofs.Numbers.{Numbered, numbered, front-is, base-aligned, out-before}
 use Rattle.blocks.proofs.Headers.{announced-most}
-use Rattle.hold.proofs.DssBlock.{dss-waits}
 
 module _ {dss : Bool} {n d m : ℕ} {hold waiting : List ℕ} {was : Standing} {o c : ℕ} (g : Owing dss n d m hold waiting was o c) where
   numbers : Numbered dss (g .f) (g .a) n n (ready dss (g .f) (g .a) n + d) was

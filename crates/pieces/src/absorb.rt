@@ -1,15 +1,15 @@
 // The blocks of an accepted piece, one after another: the first from what was kept of it and the piece, the others from the piece.
-// Rests on hold, for a block more, on blocks and tables.
+// Rests on hold, for a block more, on held, on blocks and tables.
 use blocks::BLOCK;
 use blocks::FilePlace;
-use hold::Standing;
+use held::Standing;
 ghost use mathlib.Core.Path.{_≡_};
 ghost use mathlib.Core.List.{List};
 ghost use mathlib.Core.Bool.{true, false};
 ghost use Prim.Native.Nat.{ℕ, _+_, _*_, _-_, _≤_, _<_};
 ghost use lib.ListN.{length};
 ghost use Rattle.blocks.specs.Places.{limit, wholeBlocks};
-ghost use Rattle.hold.specs.Between.{Added};
+ghost use Rattle.held.specs.Between.{Added};
 ghost use Rattle.pieces.specs.Joined.{bytesFrom, Joins, Able, Coming, Absorbed};
 
 // Makes of `partial` the 512 bytes from `place` on: those that it has, those of the piece, then zeros.
@@ -23,7 +23,7 @@ fn renew(partial: &mut [u8; 512], piece: &[u8], taken: usize, place: usize)
     let at = crate::past(place, taken);
     let n = end - kept;
     tables::copy(partial, kept, piece, at, n);
-    hold::bytes::clear(partial, end, BLOCK - end);
+    held::bytes::clear(partial, end, BLOCK - end);
 }
 
 // Adds block b of the bytes joined.

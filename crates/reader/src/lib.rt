@@ -1,10 +1,10 @@
 // Reading in pieces: a Reader takes an SP recording's bytes in any cut, hands out packets as they become ready, and ends strictly or
-// leniently. What `Ds2SpStreamDemuxer` and `DssSpStreamDemuxer` do. Rests on pieces, for a piece, on hold, for packets that are owed, on sp,
-// for the answer's form, on packets, refusals, blocks and tables.
+// leniently. What `Ds2SpStreamDemuxer` and `DssSpStreamDemuxer` do. Rests on pieces, for a piece, on held and hold, for packets that are
+// owed, on sp, for the answer's form, on packets, refusals, blocks and tables.
 use blocks::BLOCK;
 use blocks::FilePlace;
 use blocks::StreamPlace;
-use hold::Standing;
+use held::Standing;
 use packets::PACKET;
 use pieces::Verdict;
 use refusals::Refusal;

@@ -1,6 +1,6 @@
 -- `hold::add_block` meets its contract: of either kind, the one that it is.
 -- Assumes nothing.
-use Rattle.hold.proofs.Adding.{next-as, added-as}
+use Rattle.held.proofs.Adding.{next-as, added-as}
 use borrow.Author.Needs.{needs}
 use Rattle.hold.proofs.add_block.Statement.{statement}
 use Rattle.hold.proofs.add_block.Tie as tie
