@@ -3,62 +3,21 @@
 use blocks::FilePlace;
 use detect::AudioFormat;
 use detect::Kind;
-use libc::STDOUT_FILENO;
-use refusals::Refusal;
+use samples::ds2_file;
+use samples::long_records;
+use samples::shown::number;
+use samples::shown::show;
+use samples::shown::show_refusal;
+use samples::shown::text;
+use samples::shown::word;
+use samples::two_blocks;
 use sp::Demuxed;
 ghost use mathlib.Core.Path.{_≡_};
-ghost use Prim.Native.Nat.{_+_, _≤_};
+ghost use Prim.Native.Nat.{_≤_};
 ghost use lib.ListN.{length};
 
 // The listing's lines.
 mod lines;
-
-fn text(bytes: &[u8]) {
-    io::write_all(STDOUT_FILENO, bytes);
-}
-
-fn number(n: usize) {
-    text(b" ");
-    io::print_decimal(STDOUT_FILENO, n as u64);
-}
-
-// A word of a table.
-fn word(value: u32) {
-    text(b" ");
-    io::print_decimal(STDOUT_FILENO, value as u64);
-}
-
-// So many bytes of a packet, from a place on.
-fn show(bytes: &[u8; 42], at: usize, n: usize)
-    requires { ⌜ at + n ≤ 42 ⌝ }
-{
-    let mut k = 0;
-    while k < n {
-        let i = at + k;
-        number(tables::wide(bytes[i]));
-        k += 1;
-    }
-}
-
-// The bytes 0 to 39.
-fn rising() -> [u8; 40]
-    ensures { λ r. ⌜ length r ≡ 40 ⌝ }
-{
-    let mut read = [0u8; 40];
-    let mut k = 0;
-    while k < 40 {
-        read[k] = (k % 256) as u8;
-        k += 1;
-    }
-    read
-}
-
-fn show_refusal(why: Refusal) {
-    text(b" refused ");
-    io::print_decimal(STDOUT_FILENO, why.number);
-    text(b" ");
-    io::print_decimal(STDOUT_FILENO, why.beside);
-}
 
 fn show_answer(answer: Demuxed) {
     match answer {
@@ -70,55 +29,33 @@ fn show_answer(answer: Demuxed) {
     }
 }
 
-// A DS2 file of zeros, but for its magic and what the block at 1536 announces.
-fn ds2_file(first: u8, count: u8, byte: u8) -> [u8; 4096]
-    ensures { λ r. ⌜ length r ≡ 4096 ⌝ }
+// What the DS2 SP reading says of a file's first n bytes, with no room for any packet.
+fn show_reading(file: [u8; 4096], n: usize)
+    requires { ⌜ (length file ≡ 4096) × (n ≤ 4096) ⌝ }
 {
-    let mut file = [0u8; 4096];
-    file[0] = first;
-    file[1] = b'd';
-    file[2] = b's';
-    file[3] = b'2';
-    file[1538] = count;
-    file[1540] = byte;
-    file
-}
-
-// What the DS2 SP reading says of a file, with no room for any packet.
-fn show_reading(file: &[u8]) {
     let mut out = [0u8; 0];
     let mut counts = [0u8; 0];
-    show_answer(sp::demux_ds2(file, &mut out, &mut counts));
+    show_answer(sp::demux_ds2(&file[0..n], &mut out, &mut counts));
 }
 
 // 1: a bare header is empty, a cut one is refused.
 fn example_1() {
-    let file = ds2_file(1, 0, 0);
     text(b"1: 1536 bytes");
-    show_reading(&file[0..1536]);
+    show_reading(ds2_file(1, 0, 0), 1536);
     text(b", 1535");
-    show_reading(&file[0..1535]);
+    show_reading(ds2_file(1, 0, 0), 1535);
     text(b"\n");
 }
 
-// How many segments a QP file has, and none where it is refused.
-fn segments(file: &[u8], table: &mut [u32]) -> usize {
-    let answer = qp::demux_ds2_qp(file, table);
+// How many segments a QP file of two blocks has, and none where it is refused.
+fn segments(file: [u8; 4096], table: &mut [u32]) -> usize
+    requires { ⌜ length file ≡ 4096 ⌝ }
+{
+    let answer = qp::demux_ds2_qp(&file[0..2560], table);
     match answer {
         qp::Demuxed::Segments(totals) => totals.segments,
         qp::Demuxed::Refused(_) => 0,
     }
-}
-
-// A QP file of two blocks. The first starts at place 0.
-fn two_blocks(count: u8, byte1: u8, next: u8) -> [u8; 4096]
-    ensures { λ r. ⌜ length r ≡ 4096 ⌝ }
-{
-    let mut file = ds2_file(1, count, 6);
-    file[1537] = 3;
-    file[2049] = byte1;
-    file[2050] = next;
-    file
 }
 
 fn one_if_equal(a: usize, b: usize) -> usize
@@ -132,12 +69,22 @@ fn counts_with(count: u8, byte1: u8, many: usize) -> usize {
     let mut counts: usize = 0;
     let mut next: usize = 0;
     while next < 256 {
-        let file = two_blocks(count, byte1, next as u8);
         let mut table = [0u32; 8];
-        counts += one_if_equal(segments(&file[0..2560], &mut table), many);
+        let here = segments(two_blocks(count, byte1, next as u8), &mut table);
+        counts += one_if_equal(here, many);
         next += 1;
     }
     counts
+}
+
+// The first segment of two blocks, the second of which does not follow.
+fn show_segment() {
+    let mut table = [0u32; 8];
+    segments(two_blocks(9, 3, 9), &mut table);
+    word(table[0]);
+    word(table[1]);
+    word(table[2]);
+    word(table[3]);
 }
 
 // 2: a second block that follows the first, and one that does not.
@@ -148,30 +95,23 @@ fn example_2() {
     number(counts_with(9, 3, 2));
     text(b" and one for");
     number(counts_with(9, 3, 1));
-    let file = two_blocks(9, 3, 9);
-    let mut table = [0u32; 8];
-    segments(&file[0..2560], &mut table);
     text(b", first");
-    word(table[0]);
-    word(table[1]);
-    word(table[2]);
-    word(table[3]);
+    show_segment();
     text(b"\n");
 }
 
 // 3: the same after a scan that finds no good header.
 fn example_3() {
-    let file = ds2_file(7, 0, 0);
     text(b"3: 4095 bytes");
-    show_reading(&file[0..4095]);
+    show_reading(ds2_file(7, 0, 0), 4095);
     text(b", 4096");
-    show_reading(&file);
+    show_reading(ds2_file(7, 0, 0), 4096);
     text(b"\n");
 }
 
 // 4: how the packet of a swapped read begins and ends.
 fn example_4() {
-    let read = rising();
+    let read = samples::rising();
     let bytes = packets::packet_bytes(&read, 0, true, 99);
     text(b"4: a swapped packet begins");
     show(&bytes, 0, 6);
@@ -180,24 +120,12 @@ fn example_4() {
     text(b"\n");
 }
 
-// A QP7 file of one block that announces 10 records, all of them long.
-fn long_records(byte1: u8) -> [u8; 4096]
-    ensures { λ r. ⌜ length r ≡ 4096 ⌝ }
+fn show_records(file: [u8; 4096])
+    requires { ⌜ length file ≡ 4096 ⌝ }
 {
-    let mut file = ds2_file(1, 10, 7);
-    file[1537] = byte1;
-    let mut k = 0;
-    while k < 506 {
-        file[1542 + k] = 255;
-        k += 1;
-    }
-    file
-}
-
-fn show_records(file: &[u8]) {
     let mut records = [0u32; 16];
     let mut segments = [0u32; 3];
-    let answer = qp7::demux_ds2_qp7(file, &mut records, &mut segments);
+    let answer = qp7::demux_ds2_qp7(&file[0..2048], &mut records, &mut segments);
     match answer {
         qp7::Demuxed::Tables(totals) => {
             number(totals.records);
@@ -209,12 +137,10 @@ fn show_records(file: &[u8]) {
 
 // 5: a tenth record that is cut, and one that is not there.
 fn example_5() {
-    let cut = long_records(3);
-    let gone = long_records(4);
     text(b"5: byte 1 = 3");
-    show_records(&cut[0..2048]);
+    show_records(long_records(3));
     text(b", 4");
-    show_records(&gone[0..2048]);
+    show_records(long_records(4));
     text(b"\n");
 }
 
@@ -228,13 +154,19 @@ fn sum(counts: &[u8; 13]) -> usize {
     sum
 }
 
-// 6: one block, flag 0, that announces 13 packets: the last has 14 bytes of the file.
-fn example_6() {
-    let file = ds2_file(1, 13, 0);
+// One block, flag 0, that announces 13 packets.
+fn show_block(file: [u8; 4096], counts: &mut [u8])
+    requires { ⌜ length file ≡ 4096 ⌝ }
+{
     let mut out = [0u8; 546];
+    show_answer(sp::demux_ds2(&file[0..2048], &mut out, counts));
+}
+
+// 6: the last of those has 14 bytes of the file.
+fn example_6() {
     let mut counts = [0u8; 13];
     text(b"6: one block");
-    show_answer(sp::demux_ds2(&file[0..2048], &mut out, &mut counts));
+    show_block(ds2_file(1, 13, 0), &mut counts);
     text(b", the last has");
     number(tables::wide(counts[12]));
     text(b" file bytes, all have");

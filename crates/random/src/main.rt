@@ -1,48 +1,22 @@
 // Generated files: what the whole reading hands out, against what pieces hand out and against the tally. Every two-piece cut of small
 // recordings, three-piece cuts around the edges of blocks, and many files with random cuts. One line with counts; each disagreement gets a
-// line of its own. Rests on all the calls, and on trials.
-use libc::STDOUT_FILENO;
-use trials::say;
+// line of its own. Rests on all the calls, and on generated, readings, feeding, ends and what these share.
+use generated::tried::conclude;
+use generated::tried::none;
 
-// Files from a number.
-mod files;
+// One file, fed and drained.
+mod drained;
 
-// One file, read in all ways.
-mod readings;
-
-// The cuts that are tried.
+// The files, each in every way.
 mod cuts;
 
-// What was tried: files, cuts, packets by pieces, frames and records; refused pieces (by 7) and refused files; and disagreements.
-pub struct Tried {
-    pub files: usize,
-    pub cuts: usize,
-    pub packets: usize,
-    pub entries: usize,
-    pub sevens: usize,
-    pub refused: usize,
-    pub wrong: usize,
+// Room for the packets of any file that is made.
+fn room() -> [u8; 430080] {
+    [0u8; 430080]
 }
 
 fn main() {
-    let mut tried = Tried {
-        files: 0,
-        cuts: 0,
-        packets: 0,
-        entries: 0,
-        sevens: 0,
-        refused: 0,
-        wrong: 0,
-    };
-    tried = cuts::every_cut(tried);
-    tried = cuts::at_edges(tried);
-    tried = cuts::at_random(tried);
-    say(b"files ", tried.files as u64);
-    say(b", cuts ", tried.cuts as u64);
-    say(b", packets in pieces ", tried.packets as u64);
-    say(b", frames and records ", tried.entries as u64);
-    say(b", refused pieces ", tried.sevens as u64);
-    say(b", refused files ", tried.refused as u64);
-    say(b", wrong ", tried.wrong as u64);
-    io::write_all(STDOUT_FILENO, b"\n");
+    let mut out = room();
+    let mut counts = [0u8; 10240];
+    conclude(cuts::all(none(), &mut out, &mut counts));
 }

@@ -1,17 +1,15 @@
-// What the testing programs share: files made from a few numbers, digests of what was handed out, and a recording fed to a reader in
-// pieces. A test that goes wrong is to be seen, so nothing here demands anything of lent memory: what lies outside is left out.
-// Rests on all the calls that are tested.
+// What the testing programs share: noise that files are filled with, digests of what was handed out, and lines. A test that goes wrong is to
+// be seen, so nothing here demands anything of lent memory: what lies outside is left out. All of it is for the crates above. Rests on
+// tables and on the kit's io.
 use libc::STDOUT_FILENO;
-use tally::FileKind;
 
-// Frames and records with their bytes.
-pub mod bytes;
-
-// A reader fed in pieces.
-pub mod feeding;
-
-// A reader opened, fed and ended.
-pub mod ends;
+// Where pieces end: at the first place, at the second, and then after some bytes that noise chooses, up to `step`; with a step of 0, at the
+// end.
+pub struct Cuts {
+    pub first: usize,
+    pub second: usize,
+    pub step: usize,
+}
 
 // Writes a text and a number.
 pub fn say(text: &[u8], number: u64) {
@@ -19,14 +17,22 @@ pub fn say(text: &[u8], number: u64) {
     io::print_decimal(STDOUT_FILENO, number);
 }
 
-// A kind by its number: 0 DSSSP, 1 DS2SP, 2 DS2QP, 3 DS2QP7.
-pub fn kind_number(kind: FileKind) -> u64 {
-    match kind {
-        FileKind::DssSp => 0,
-        FileKind::Ds2Sp => 1,
-        FileKind::Ds2Qp => 2,
-        FileKind::Ds2Qp7 => 3,
+// A line for an answer of a case or a file that is not the one expected.
+fn complain(what: &[u8], number: u64, answer: u64, expected: u64, got: u64) {
+    say(what, number);
+    say(b" answer ", answer);
+    say(b": expected ", expected);
+    say(b", got ", got);
+    io::write_all(STDOUT_FILENO, b"\n");
+}
+
+// 1 and a line where two numbers differ, and 0 where they are the same.
+pub fn differs(what: &[u8], number: u64, answer: u64, expected: u64, got: u64) -> usize {
+    if expected == got {
+        return 0;
     }
+    complain(what, number, answer, expected, got);
+    1
 }
 
 // One step of the noise that fills files.
@@ -159,4 +165,22 @@ fn wide(word: u32) -> usize {
 // A word of a table, and 0 past its end.
 pub fn word(table: &[u32], at: usize) -> usize {
     if at < table.len() { wide(table[at]) } else { 0 }
+}
+
+// A number of some, and 0 past their end.
+pub fn number(numbers: &[u64], at: usize) -> u64 {
+    if at < numbers.len() { numbers[at] } else { 0 }
+}
+
+// How many of the first so many numbers are not those expected, with a line for each.
+pub fn all_differ(what: &[u8], case: u64, expected: &[u64], got: &[u64], many: u64) -> usize {
+    let mut wrong: usize = 0;
+    let mut k: u64 = 0;
+    while k < many {
+        let at = k as usize;
+        let here = differs(what, case, k + 1, number(expected, at), number(got, at));
+        wrong = sum(wrong, here);
+        k += 1;
+    }
+    wrong
 }

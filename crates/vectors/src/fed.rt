@@ -1,103 +1,144 @@
-// A file read in pieces: every answer of the reader, held to the list; and the limit, which no file of the list reaches. Rests on trials.
-use crate::calls::refusal;
-use crate::list::Seen;
-use crate::list::expect;
+// A file read in pieces: every answer of the reader, held to the list; and the limit, which no file of the list reaches. Rests on reader, on
+// feeding and ends, and on expected, sums and trials.
+use ends::Ended;
+use ends::LenientEnd;
+use expected::Seen;
+use expected::expect;
+use expected::expect_all;
 use libc::STDOUT_FILENO;
-use trials::ends::Course;
-use trials::ends::LenientEnd;
-use trials::ends::Pieces;
-use trials::ends::SecondEnd;
-use trials::feeding::Sums;
+use reader::Reader;
+use sums::BESIDE;
+use sums::BYTES;
+use sums::NUMBER;
+use sums::PACKETS;
+use sums::PAST;
+use sums::PIECES;
+use sums::Sums;
+use sums::TAKEN;
+use trials::Cuts;
 use trials::say;
+ghost use Rattle.reader.specs.State.{Reached};
+
+// What the pieces of a file brought, and the ends.
+struct Course {
+    came: Sums,
+    ended: Ended,
+}
+
+// What a file gives in pieces: the answer to open, and to an empty piece then; what the pieces brought, and the ends.
+pub struct Pieces {
+    opened: Sums,
+    fresh: Sums,
+    came: Sums,
+    ended: Ended,
+}
+
+// Feeds a reader the file, and ends it.
+fn run(reader: Reader, file: &[u8], cuts: Cuts, out: &mut [u8], counts: &mut [u8]) -> Course
+    requires { ⌜ Reached reader ⌝ }
+{
+    let fed = feeding::feed(reader, file, cuts, out, counts);
+    let came = fed.sums;
+    let taken = fed.reader;
+    let ended = ends::ends_of(taken, out, counts);
+    Course { came, ended }
+}
+
+// Opens a reader, feeds it the file, and ends it.
+pub fn in_pieces(kind: u64, file: &[u8], cuts: Cuts, out: &mut [u8], counts: &mut [u8]) -> Pieces {
+    let step = Reader::open(kind);
+    let answer = step.answer;
+    let reader = step.reader;
+    let opened = sums::told(answer, out, counts);
+    let fresh = ends::empty_piece(reader, out, counts);
+    let course = run(reader, file, cuts, out, counts);
+    let came = course.came;
+    let ended = course.ended;
+    Pieces {
+        opened,
+        fresh,
+        came,
+        ended,
+    }
+}
 
 // What the pieces brought.
-fn with_sums(list: &[u8], before: Seen, sums: Sums) -> Seen {
-    let mut seen = expect(list, before, sums.taken as u64);
-    seen = refusal(list, seen, sums.number, sums.beside);
-    seen = expect(list, seen, sums.packets as u64);
-    seen = expect(list, seen, sums.pieces);
-    seen = expect(list, seen, sums.bytes);
-    expect(list, seen, sums.counts)
+fn with_sums(list: &[u8], before: Seen, came: Sums) -> Seen {
+    let mut seen = expect(list, before, came[TAKEN]);
+    seen = expect_all(list, seen, &came, NUMBER, BYTES);
+    seen = expect(list, seen, came[PIECES]);
+    expect_all(list, seen, &came, BYTES, PAST)
 }
 
 // What a lenient end brought, and the frames owed after it.
 fn with_end(list: &[u8], before: Seen, came: Sums, owed: usize) -> Seen {
-    let mut seen = refusal(list, before, came.number, came.beside);
-    seen = expect(list, seen, came.packets as u64);
-    seen = expect(list, seen, came.bytes);
-    seen = expect(list, seen, came.counts);
+    let seen = expect_all(list, before, &came, NUMBER, PAST);
     expect(list, seen, owed as u64)
 }
 
 // The lenient end, and an empty piece after that.
-fn with_lenient(list: &[u8], before: Seen, end: LenientEnd) -> Seen {
-    let came = end.came;
-    let late = end.late;
-    let mut seen = with_end(list, before, came, end.owed);
-    seen = refusal(list, seen, late.number, late.beside);
-    expect(list, seen, late.packets as u64)
+fn with_lenient(list: &[u8], before: Seen, lenient: LenientEnd) -> Seen {
+    let came = lenient.came;
+    let late = lenient.late;
+    let seen = with_end(list, before, came, lenient.owed);
+    expect_all(list, seen, &late, NUMBER, BYTES)
 }
 
-// What was fed and ended: the strict end, then the lenient end.
-fn with_course(list: &[u8], before: Seen, course: Course) -> Seen {
-    let came = course.came;
-    let ended = course.ended;
+// The strict end, then the lenient end.
+fn with_ends(list: &[u8], before: Seen, ended: Ended) -> Seen {
     let strict = ended.strict;
     let lenient = ended.lenient;
-    let mut seen = with_sums(list, before, came);
-    seen = expect(list, seen, ended.owed as u64);
-    seen = refusal(list, seen, strict.number, strict.beside);
+    let mut seen = expect(list, before, ended.owed as u64);
+    seen = expect_all(list, seen, &strict, NUMBER, PACKETS);
     with_lenient(list, seen, lenient)
 }
 
 // A reader opened, fed and ended.
 pub fn with_pieces(list: &[u8], before: Seen, pieces: Pieces) -> Seen {
     let opened = pieces.opened;
-    let course = pieces.course;
-    let seen = refusal(list, before, opened.number, opened.beside);
-    with_course(list, seen, course)
+    let came = pieces.came;
+    let ended = pieces.ended;
+    let mut seen = expect_all(list, before, &opened, NUMBER, PACKETS);
+    seen = with_sums(list, seen, came);
+    with_ends(list, seen, ended)
 }
 
 // After the lenient end: the strict end, and the lenient end again.
-fn with_second(list: &[u8], before: Seen, second: SecondEnd) -> Seen {
-    let strict = second.strict;
-    let came = second.came;
-    let seen = refusal(list, before, strict.number, strict.beside);
-    with_end(list, seen, came, second.owed)
+fn with_second(list: &[u8], before: Seen, lenient: LenientEnd) -> Seen {
+    let last = lenient.came;
+    let strict = lenient.strict;
+    let again = lenient.again;
+    let mut seen = expect(list, before, last[PAST]);
+    seen = expect_all(list, seen, &strict, NUMBER, PACKETS);
+    with_end(list, seen, again, lenient.still)
 }
 
-// What the pieces and the ends left untouched, an empty piece after the strict end, and the ends again.
-fn with_rest(list: &[u8], before: Seen, course: Course) -> Seen {
-    let came = course.came;
-    let ended = course.ended;
+// The packets of the strict end, the refusal of an empty piece after it, and what follows on the lenient end.
+fn with_rest(list: &[u8], before: Seen, ended: Ended) -> Seen {
     let strict = ended.strict;
     let patient = ended.patient;
     let lenient = ended.lenient;
-    let last = lenient.came;
-    let second = ended.second;
-    let mut seen = expect(list, before, came.past);
-    seen = expect(list, seen, strict.packets as u64);
-    seen = expect(list, seen, patient.number);
-    seen = expect(list, seen, last.past);
-    with_second(list, seen, second)
+    let mut seen = expect(list, before, strict[PACKETS]);
+    seen = expect(list, seen, patient[NUMBER]);
+    with_second(list, seen, lenient)
 }
 
-// The packets that open answers, an empty piece on the fresh reader, and the rest.
+// The packets that open answers, an empty piece on the fresh reader, what the pieces left untouched, and the rest.
 pub fn with_more(list: &[u8], before: Seen, pieces: Pieces) -> Seen {
     let opened = pieces.opened;
     let fresh = pieces.fresh;
-    let course = pieces.course;
-    let mut seen = expect(list, before, opened.packets as u64);
-    seen = expect(list, seen, fresh.number);
-    seen = expect(list, seen, fresh.packets as u64);
-    with_rest(list, seen, course)
+    let came = pieces.came;
+    let ended = pieces.ended;
+    let said = [opened[PACKETS], fresh[NUMBER], fresh[PACKETS], came[PAST]];
+    let seen = expect_all(list, before, &said, 0, 4);
+    with_rest(list, seen, ended)
 }
 
 // A DSS reader at the limit and a byte past it: 268,435,456 bytes are taken, and one more is refused by 2.
 pub fn limit() {
-    let came = trials::ends::past_the_limit();
-    say(b"limit: taken ", came.taken as u64);
-    say(b", then refused ", came.number);
-    say(b" ", came.beside);
+    let came = feeding::past_the_limit();
+    say(b"limit: taken ", came[TAKEN]);
+    say(b", then refused ", came[NUMBER]);
+    say(b" ", came[BESIDE]);
     io::write_all(STDOUT_FILENO, b"\n");
 }

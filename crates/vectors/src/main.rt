@@ -1,11 +1,8 @@
 // Replays a fixed list of files with the answers that are expected for each, from standard input, and says how many cases there were and how
 // many answers were wrong; each wrong one gets a line. LIST.md says what the list holds, and make.py makes it.
-// Rests on all the calls, and on trials.
+// Rests on all the calls, and on asked, expected, feeding, ends and what these share.
 use libc::STDIN_FILENO;
 use libc::STDOUT_FILENO;
-
-// The list and what is expected.
-mod list;
 
 // The calls on one file.
 mod calls;
@@ -15,13 +12,13 @@ mod fed;
 
 // Runs through the list. A case has some numbers, so there are no more cases than bytes.
 fn run(list: &[u8]) {
-    let mut seen = list::begin();
+    let mut seen = expected::begin();
     let mut turns: usize = 0;
-    while turns < list.len() && list::goes_on(list, seen) {
+    while turns < list.len() && expected::goes_on(list, seen) {
         seen = calls::one_case(list, seen);
         turns += 1;
     }
-    list::conclude(seen);
+    expected::conclude(seen);
 }
 
 // Room for the list, and more.

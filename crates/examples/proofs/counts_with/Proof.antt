@@ -20,15 +20,6 @@ cast-two-blocks c = search needs
 two-blocks-requires : tie.Need-two-blocks-requires Inv-loop μ-loop
 two-blocks-requires c κs = search needs
 
-sub-segments : tie.Need-sub-segments Inv-loop μ-loop
-sub-segments c = search needs
-
-part-segments-start : tie.Need-part-segments-start Inv-loop μ-loop
-part-segments-start c = search needs
-
-part-segments-end : tie.Need-part-segments-end Inv-loop μ-loop
-part-segments-end c = search needs
-
 slice-aggregate-segments : tie.Need-slice-aggregate-segments Inv-loop μ-loop
 slice-aggregate-segments c = search needs
 
@@ -62,9 +53,6 @@ counts-with-spec =
     loop-holds
     cast-two-blocks
     two-blocks-requires
-    sub-segments
-    part-segments-start
-    part-segments-end
     slice-aggregate-segments
     segments-requires
     one-if-equal-requires

@@ -9,10 +9,10 @@ use Rattle.random.proofs.cuts.files.Statement.{statement}
 use Rattle.random.proofs.cuts.files.Tie as tie
 
 abbrev Inv-loop : tie.InvT-loop
-Inv-loop way from to space₀ tried₀ number₀ space tried number = length space ≡ 24576
+Inv-loop way from to out₀ counts₀ space₀ tried₀ number₀ out counts space tried number = (length space ≡ 24576) × (length out ≡ length out₀) × (length counts ≡ length counts₀)
 
 abbrev μ-loop : tie.MeasureT-loop
-μ-loop way from to space₀ tried₀ number₀ space tried number = to - number
+μ-loop way from to out₀ counts₀ space₀ tried₀ number₀ out counts space tried number = to - number
 
 loop-holds : tie.Need-loop-holds Inv-loop μ-loop
 loop-holds c = search needs
@@ -39,9 +39,18 @@ loop-less : tie.Need-loop-less Inv-loop μ-loop
 loop-less c = search needs
 
 loop-again : tie.Need-loop-again Inv-loop μ-loop
-loop-again c =
-    simp (length-append, length-drop)
-    (omega (arith, simp length-take at (c .before .one-file .kept .1 .1 .1 .1 .0)))
+loop-again c = (
+  simp (length-append, length-drop)
+      (omega (arith, simp length-take at (c .before .before .before .before .before .one-file .kept .1 .1 .1 .1 .0))),
+  search needs,
+  search needs,
+)
+
+same-length : tie.Need-same-length Inv-loop μ-loop
+same-length c = search needs
+
+same-length-2 : tie.Need-same-length-2 Inv-loop μ-loop
+same-length-2 c = search needs
 
 returns : tie.Need-returns Inv-loop μ-loop
 returns c = search needs
@@ -61,4 +70,6 @@ files-spec =
     add-number
     loop-less
     loop-again
+    same-length
+    same-length-2
     returns)

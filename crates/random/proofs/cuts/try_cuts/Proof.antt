@@ -8,13 +8,10 @@ use Rattle.random.proofs.cuts.try_cuts.Statement.{statement}
 use Rattle.random.proofs.cuts.try_cuts.Tie as tie
 
 abbrev Inv-loop : tie.InvT-loop
-Inv-loop way number file made whole out₀ counts₀ times tried₀ k₀ out counts tried k = (k ≤ times) × (length out ≡ length out₀) × (length counts ≡ length counts₀)
+Inv-loop way number file made whole times out₀ counts₀ tried₀ k₀ out counts tried k = (k ≤ times) × (length out ≡ length out₀) × (length counts ≡ length counts₀)
 
 abbrev μ-loop : tie.MeasureT-loop
-μ-loop way number file made whole out₀ counts₀ times tried₀ k₀ out counts tried k = times - k
-
-times-by-requires : tie.Need-times-by-requires Inv-loop μ-loop
-times-by-requires c κs = search needs
+μ-loop way number file made whole times out₀ counts₀ tried₀ k₀ out counts tried k = times - k
 
 loop-holds : tie.Need-loop-holds Inv-loop μ-loop
 loop-holds c = search needs
@@ -46,7 +43,6 @@ try-cuts-spec =
     (tie.spec
     Inv-loop
     μ-loop
-    times-by-requires
     loop-holds
     try-one-requires
     add-k
