@@ -1,15 +1,17 @@
 """statements.py FILE: holds FILE, docs/STATEMENTS.md, against the tree.
 
 Under each heading that begins with a number, every row of the table names at least one declaration, as `name` in `file`, and each
-stands there: a theorem or definition that is `pub`, or a function that has an `ensures`. Under the last heading every edit of
-crates/*/must-fail is named, as `crate/edit`, and no other. Prints how many were found, and what was not.
+stands there: a theorem or definition that is `pub`, or a function that has an `ensures`. Under the last heading every wrong program of
+crates/*/must-fail is named, as `crate/program`, and no other. Prints how many were found, and what was not.
 """
 import glob
 import re
 import sys
 
+import edits
+
 NAMED = re.compile(r"`([^`]+)` in `(crates/[^`]+)`")
-EDIT = re.compile(r"`([a-z0-9_]+/[a-z0-9_]+)`")
+PROGRAM = re.compile(r"`([a-z0-9_]+/[a-z0-9_]+)`")
 
 
 def declared(name: str, path: str) -> bool:
@@ -25,10 +27,15 @@ def declared(name: str, path: str) -> bool:
     return bool(re.search(marks + re.escape(name) + r"(?: \{[^}]*\})?(?: :| \()", text, re.M))
 
 
+def wrong_programs() -> set[str]:
+    paths = glob.glob("crates/*/must-fail/*.edit")
+    return {f"{path.split('/')[1]}/{program['name']}" for path in paths for program in edits.programs(path)}
+
+
 def main() -> int:
     with open(sys.argv[1], encoding="utf-8") as file:
         sections = re.split(r"^## ", file.read(), flags=re.M)[1:]
-    found, wrong, named_edits = 0, [], set()
+    found, wrong, named = 0, [], set()
     for section in sections:
         rows = [row for row in section.split("\n") if row.startswith("|")][2:]
         if section[0].isdigit():
@@ -42,13 +49,13 @@ def main() -> int:
                     else:
                         wrong.append(f"no {name} in {path}")
         else:
-            named_edits.update(EDIT.findall("\n".join(rows)))
-    edits = {f"{path.split('/')[1]}/{path.split('/')[3][:-5]}" for path in glob.glob("crates/*/must-fail/*.edit")}
-    wrong += [f"an edit that is not named: {edit}" for edit in sorted(edits - named_edits)]
-    wrong += [f"no edit {edit}" for edit in sorted(named_edits - edits)]
+            named.update(PROGRAM.findall("\n".join(rows)))
+    programs = wrong_programs()
+    wrong += [f"a wrong program that is not named: {program}" for program in sorted(programs - named)]
+    wrong += [f"no wrong program {program}" for program in sorted(named - programs)]
     for line in wrong:
         print(f"statements: {line}")
-    print(f"statements: {found} declarations and {len(edits)} edits, {len(wrong)} wrong")
+    print(f"statements: {found} declarations and {len(programs)} wrong programs, {len(wrong)} wrong")
     return 1 if wrong or not found else 0
 
 

@@ -1,5 +1,7 @@
 -- `klovdrun::klov_show` meets its contract: the answer of frame_place, as its numbers.
 -- Assumes nothing.
+use mathlib.Core.Path.{_∙_, ap}
+use Rattle.numbers.specs.Numbers.{standNumbers}
 use borrow.Author.Needs.{needs}
 use Rattle.klovdrun.proofs.klov_show.Statement.{statement}
 use Rattle.klovdrun.proofs.klov_show.Tie as tie
@@ -11,7 +13,7 @@ of-stand-requires : tie.Need-of-stand-requires
 of-stand-requires c κs = search needs
 
 returns : tie.Need-returns
-returns c = cc
+returns c = c .of-stand .ensures ∙ ap standNumbers (c .before .frame-place .ensures)
 
 pub klov-show-spec : {M : Type 1} → statement M
 klov-show-spec = tie.close (tie.spec frame-place-requires of-stand-requires returns)

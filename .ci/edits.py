@@ -1,0 +1,94 @@
+"""edits.py LOGS: holds the edits of crates/*/must-fail against what the check said of each, LOGS/CRATE/EDIT/.log, which rt has left.
+
+An edit has one wrong program or several, each in another function: a line `wrong: NAME`, what is wrong with it, a line `refused: F`, and its
+replacements. F is the function that is not proved then, as a path of its crate, or a law or theorem. rt asks that the edit is refused; here
+each of its wrong programs is: F is to be refused by a fact of its own, and not since something that it rests on is refused. An edit that only
+makes a proof unfit for its code shows nothing, and is wrong too. Prints how many there are, and what is wrong.
+"""
+import glob
+import re
+import sys
+
+ERROR = re.compile(r"^([^\s:]+):\d+:\d+: error: `([^`]+)`: (.*)", re.M)
+FOLLOWS = re.compile(r"`[^`]+` was not admitted \(")
+UNFIT = "has no `Need-"
+UNCOVERED = "; the borrow checker does not cover this function yet"
+
+
+def programs(path: str) -> list[dict]:
+    """The wrong programs of an edit: each one's name, what refuses it, and how many replacements it has. What stands before the first has no name."""
+    found = [{"name": "", "refused": [], "pairs": 0}]
+    with open(path, encoding="utf-8") as file:
+        for line in file:
+            if line.startswith("wrong:"):
+                found.append({"name": line[6:].strip(), "refused": [], "pairs": 0})
+            elif line.startswith("refused:"):
+                found[-1]["refused"].append(line[8:].strip())
+            elif line.startswith("new:"):
+                found[-1]["pairs"] += 1
+    return found if found[0]["refused"] or found[0]["pairs"] else found[1:]
+
+
+def is_function(crate: str, what: str) -> bool:
+    """Whether the crate's sources have a function of that name."""
+    for path in glob.glob(f"crates/{crate}/src/**/*.rt", recursive=True):
+        with open(path, encoding="utf-8") as file:
+            if re.search(rf"\bfn {re.escape(what.split('::')[-1])}\b", file.read()):
+                return True
+    return False
+
+
+def refused_itself(crate: str, what: str, log: str) -> bool:
+    """Whether the log has an error of the function's own facts, or of the law or theorem, that does not follow from another."""
+    errors = [(path, name) for path, name, text in ERROR.findall(log) if not FOLLOWS.match(text)]
+    if not is_function(crate, what):
+        return what in [name for path, name in errors]
+    said = re.search(rf"^fn {crate}::{re.escape(what)}: (.*)", log, re.M)
+    if not said or said.group(1) == "proved":
+        return False
+    if said.group(1).startswith("no proof: "):
+        return "`search` does not close" in said.group(1)
+    # the last declaration puts the facts together; it is a fact itself where the whole proof is a walk by hand
+    own = [name for path, name in errors if path.endswith(f"/proofs/{what.replace('::', '/')}/Proof.antt")]
+    whole = f"{what.split('::')[-1].replace('_', '-')}-spec"
+    return any(name != whole or UNCOVERED in said.group(1) for name in own)
+
+
+def faults(crate: str, edit: str, found: list[dict], log: str) -> list[str]:
+    """What is wrong with an edit."""
+    wrong = [f"{crate}/{edit} names no wrong program"] if not found else []
+    if UNFIT in log:
+        wrong.append(f"{crate}/{edit} makes a proof unfit for its code")
+    refusing = [what for program in found for what in program["refused"]]
+    if len(set(refusing)) < len(refusing):
+        wrong.append(f"{crate}/{edit} has two wrong programs in one function")
+    for program in found:
+        name, refused = program["name"], program["refused"]
+        if not re.fullmatch(r"[a-z0-9_]+", name) or len(refused) != 1 or not program["pairs"]:
+            wrong.append(f"{crate}/{edit}: '{name}' lacks its name, what refuses it or a replacement")
+        elif not refused_itself(crate, refused[0], log):
+            wrong.append(f"{crate}/{name}: {refused[0]} is not refused by a fact of its own in {edit}")
+    return wrong
+
+
+def main() -> int:
+    wrong, names = [], []
+    edits = sorted(glob.glob("crates/*/must-fail/*.edit"))
+    for path in edits:
+        crate, edit = path.split("/")[1], path.split("/")[3][:-5]
+        found = programs(path)
+        names += [f"{crate}/{program['name']}" for program in found]
+        try:
+            with open(f"{sys.argv[1]}/{crate}/{edit}/.log", encoding="utf-8") as file:
+                wrong += faults(crate, edit, found, file.read())
+        except OSError:
+            wrong.append(f"{crate}/{edit} was not tried")
+    wrong += [f"{name} is there twice" for name in sorted(set(names)) if names.count(name) > 1]
+    for line in wrong:
+        print(f"edits: {line}")
+    print(f"edits: {len(names)} wrong programs in {len(edits)} edits, {len(wrong)} wrong")
+    return 1 if wrong or not names else 0
+
+
+if __name__ == "__main__":
+    sys.exit(main())
