@@ -15,8 +15,8 @@ Made by .ci/figures.py from the sources and from what the gate wrote.
 
 """
 TAIL = """
-Seconds are those of one check on one core, as rt tells them; rt runs as many at once as there are cores. A crate's edits are its wrong
-programs under must-fail/: each costs a check of the whole crate. Lines that are blank or only a comment are not counted; `use` lines are, but for those
+Seconds are those of one check on one core, as rt tells them; rt runs as many at once as there are cores. A crate's wrong programs are tried
+by its edits, under must-fail/: each edit costs a check of the whole crate. Lines that are blank or only a comment are not counted; `use` lines are, but for those
 that sources have for their contracts alone. Functions are all of a crate's, public or not; each is proved to meet its contract.
 """
 
@@ -39,6 +39,10 @@ def crate_figures(name):
     return [len(functions), len(source) - len(contracts) - len(ghosts), len(contracts), len(definitions), len(proofs)]
 
 
+def wrong_programs(name):
+    return len([line for line in lines(f"crates/{name}/must-fail/*.edit", "#") if line.startswith("wrong: ")])
+
+
 def main():
     with open(sys.argv[1], encoding="utf-8") as file:
         log = file.read()
@@ -54,15 +58,15 @@ def main():
     rows = [[name, *crate_figures(name), int(proved[name])] for name in names]
     for row in rows:
         seconds = [int(number) for name, number in edits if name == row[0]]
-        row += [len(seconds), sum(seconds)]
+        row += [wrong_programs(row[0]), len(seconds), sum(seconds)]
     rows.append([f"{len(names)} crates", *(sum(column) for column in list(zip(*rows))[1:])])
-    titles = ["crate", "functions", "code", "contracts", "definitions", "proof", "seconds", "edits", "seconds of all edits"]
+    titles = ["crate", "functions", "code", "contracts", "definitions", "proof", "seconds", "wrong programs", "edits", "seconds of all edits"]
     table = [titles, ["---"] * len(titles), *rows]
     told = "\n".join("| " + " | ".join(f"{cell:,}" if isinstance(cell, int) else cell for cell in row) + " |" for row in table)
-    parts = "; ".join(f"{what} {seconds} s" for what, seconds in took.items() if what not in ("rt ci", "all"))
+    parts = "; ".join(f"{what} {seconds} s" for what, seconds in took.items() if what not in ("rt ci", "archive", "all"))
     machine = f"{time.strftime('%Y-%m-%d')}, {platform.machine()}, {re.search(r'^gate: cores (.+)$', log, re.M).group(1)} cores"
     remark = f" {sys.argv[3]}" if len(sys.argv) > 3 else ""
-    whole = f", .ci/run in all {took['all']} s ({parts})" if "all" in took else ""
+    whole = f", .ci/run in all {took['all']} s (then, in two lanes: {parts})" if "all" in took else ""
     times = f"{machine}: `rt ci` took {took['rt ci']} s{whole}.{remark}\n\n"
     with open(sys.argv[2], "w", encoding="utf-8") as file:
         file.write(HEAD + times + told + "\n" + TAIL)
