@@ -71,6 +71,14 @@ def faults(crate: str, edit: str, found: list[dict], log: str) -> list[str]:
     return wrong
 
 
+def report(part: str, found: str, wrong: list[str], some: bool) -> int:
+    """Prints what is wrong and what was found, and gives the status: finding nothing at all is wrong too."""
+    for line in wrong:
+        print(f"{part}: {line}")
+    print(f"{part}: {found}, {len(wrong)} wrong")
+    return 1 if wrong or not some else 0
+
+
 def main() -> int:
     wrong, names = [], []
     edits = sorted(glob.glob("crates/*/must-fail/*.edit"))
@@ -84,10 +92,7 @@ def main() -> int:
         except OSError:
             wrong.append(f"{crate}/{edit} was not tried")
     wrong += [f"{name} is there twice" for name in sorted(set(names)) if names.count(name) > 1]
-    for line in wrong:
-        print(f"edits: {line}")
-    print(f"edits: {len(names)} wrong programs in {len(edits)} edits, {len(wrong)} wrong")
-    return 1 if wrong or not names else 0
+    return report("edits", f"{len(names)} wrong programs in {len(edits)} edits", wrong, bool(names))
 
 
 if __name__ == "__main__":

@@ -53,10 +53,7 @@ def main() -> int:
     programs = wrong_programs()
     wrong += [f"a wrong program that is not named: {program}" for program in sorted(programs - named)]
     wrong += [f"no wrong program {program}" for program in sorted(named - programs)]
-    for line in wrong:
-        print(f"statements: {line}")
-    print(f"statements: {found} declarations and {len(programs)} wrong programs, {len(wrong)} wrong")
-    return 1 if wrong or not found else 0
+    return edits.report("statements", f"{found} declarations and {len(programs)} wrong programs", wrong, bool(found))
 
 
 if __name__ == "__main__":
