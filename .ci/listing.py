@@ -1,4 +1,4 @@
-"""listing.py LIST WORD ..: tries the program `list`, which the words run, on the files of LIST, crates/vectors/stdin, and through slow pipes.
+"""listing.py LIST WORD ..: tries the program `list`, which the words run, on the files of LIST, crates/test_vectors/stdin, and through slow pipes.
 
 Each file of the list is made anew and given to it, and the line is held to the tally that the list has for it. Some go through a
 pipe that delivers them in small parts. Then what no list holds: no input, input of a byte too many and of millions, and input that

@@ -10,13 +10,13 @@ use Rattle.tables.specs.Lent.{Leaves}
 use Rattle.tables.proofs.Cases.{by-order}
 use Rattle.tables.proofs.Table.{length-table, table-at, is-table}
 use Rattle.blocks.specs.Places.{wholeBlocks, blockAt}
-use Rattle.held.specs.declared.Standing.{Standing}
-use Rattle.held.specs.Ready.{readingIn, ready}
-use Rattle.held.specs.Parts.{PartWritten}
-use Rattle.held.specs.Between.{brought, Next, Added}
-use Rattle.held.proofs.Front.{fits-each}
-use Rattle.held.proofs.Longer.{ready-grows-in}
-use Rattle.held.proofs.Partwise.{part-none, part-join}
+use Rattle.hold.specs.declared.Standing.{Standing}
+use Rattle.hold.specs.Ready.{readingIn, ready}
+use Rattle.hold.specs.Parts.{PartWritten}
+use Rattle.hold.specs.Between.{brought, Next, Added}
+use Rattle.hold.proofs.Front.{fits-each}
+use Rattle.hold.proofs.Longer.{ready-grows-in}
+use Rattle.hold.proofs.Partwise.{part-none, part-join}
 use Rattle.pieces.specs.Joined.{bytesFrom}
 use Rattle.pieces.specs.Joined.{Joins, Able, Coming, Adding, Absorbed}
 

@@ -11,9 +11,9 @@ use Rattle.tables.proofs.Cases.{by-test}
 use Rattle.blocks.specs.Places.{wholeBlocks}
 use Rattle.refusals.specs.declared.Refusal.{Refusal}
 use Rattle.refusals.specs.Said.{Said, answers, refusal, refuses, demand}
-use Rattle.held.specs.declared.Standing.{Standing}
-use Rattle.held.specs.Ready.{ready}
-use Rattle.held.specs.Held.{fits}
+use Rattle.hold.specs.declared.Standing.{Standing}
+use Rattle.hold.specs.Ready.{ready}
+use Rattle.hold.specs.Held.{fits}
 use Rattle.pieces.specs.Joined.{Known, gained, judged, accepts}
 use Rattle.pieces.proofs.Sources.{numbers-of}
 

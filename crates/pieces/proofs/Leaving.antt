@@ -13,14 +13,14 @@ use Rattle.blocks.specs.Headers.{announcedIn}
 use Rattle.blocks.proofs.Headers.{announced-more}
 use Rattle.sp.specs.declared.Run.{Run}
 use Rattle.sp.specs.ReadLists.{dssRun}
-use Rattle.held.specs.declared.Standing.{Standing}
-use Rattle.held.specs.Ready.{endsAt, readIn, front, ready}
-use Rattle.held.specs.Held.{headersFrom, waitingAt}
-use Rattle.held.proofs.Leading.{leads-only}
-use Rattle.held.proofs.Ready.{front-leads, front-within, dss-ready}
-use Rattle.held.proofs.Front.{few-wait}
+use Rattle.hold.specs.declared.Standing.{Standing}
+use Rattle.hold.specs.Ready.{endsAt, readIn, front, ready}
+use Rattle.hold.specs.Held.{headersFrom, waitingAt}
+use Rattle.hold.proofs.Leading.{leads-only}
+use Rattle.hold.proofs.Ready.{front-leads, front-within, dss-ready}
+use Rattle.hold.proofs.Front.{few-wait}
 use Rattle.blocks.proofs.Headers.{announced-most}
-use Rattle.held.proofs.Numbers.{front-is, out-before}
+use Rattle.hold.proofs.Numbers.{front-is, out-before}
 use Rattle.pieces.specs.Joined.{Joins, Known}
 use Rattle.pieces.proofs.Sources.{numbers-of}
 

@@ -8,9 +8,9 @@ use native.Mathlib.Omega.{arith}
 use lib.ListN.{length, getD}
 use Rattle.blocks.specs.Places.{wholeBlocks, blockAt}
 use Rattle.blocks.specs.Headers.{headerByte}
-use Rattle.held.specs.declared.Standing.{Standing}
-use Rattle.held.specs.Ready.{ready}
-use Rattle.held.proofs.Numbers.{Numbered, numbered}
+use Rattle.hold.specs.declared.Standing.{Standing}
+use Rattle.hold.specs.Ready.{ready}
+use Rattle.hold.proofs.Numbers.{Numbered, numbered}
 use Rattle.pieces.specs.Joined.{Joins, Known}
 
 module _ {f partial piece : List ℕ} {taken tail : ℕ} (joins : Joins f partial piece taken tail) where

@@ -11,12 +11,12 @@ use Rattle.blocks.specs.Places.{wholeBlocks, blockAt}
 use Rattle.blocks.specs.Headers.{Bytes, headerByte, flagOf, swapOf, countOf, announcedIn}
 use Rattle.blocks.proofs.Headers.{announced-none, announced-more}
 use Rattle.packets.specs.Walk.{reach}
-use Rattle.held.specs.declared.Standing.{Standing}
-use Rattle.held.specs.Ready.{ready}
-use Rattle.held.specs.Held.{baseAt, blockFits, fits}
-use Rattle.held.proofs.Leading.{never}
-use Rattle.held.proofs.Ready.{ds2-ready-is, ready-none, ds2-base, base-within}
-use Rattle.held.proofs.Front.{fits-each, each-fits}
+use Rattle.hold.specs.declared.Standing.{Standing}
+use Rattle.hold.specs.Ready.{ready}
+use Rattle.hold.specs.Held.{baseAt, blockFits, fits}
+use Rattle.hold.proofs.Leading.{never}
+use Rattle.hold.proofs.Ready.{ds2-ready-is, ready-none, ds2-base, base-within}
+use Rattle.hold.proofs.Front.{fits-each, each-fits}
 use Rattle.blocks.proofs.Headers.{announced-most}
 use Rattle.pieces.specs.Joined.{Joins, Known}
 use Rattle.pieces.proofs.Sources.{numbers-of}

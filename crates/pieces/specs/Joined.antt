@@ -9,11 +9,11 @@ use lib.Dec.{leb}
 use Rattle.blocks.specs.Places.{limit, wholeBlocks, blockAt}
 use Rattle.blocks.specs.Headers.{Bytes}
 use Rattle.refusals.specs.Said.{Said, answers, refusal, demand}
-use Rattle.held.specs.declared.Standing.{Standing}
-use Rattle.held.specs.Ready.{readingIn, ready}
-use Rattle.held.specs.Held.{blockFits, fits, waitingAt}
-use Rattle.held.specs.Parts.{PartWritten}
-use Rattle.held.specs.Between.{numbersAt, holdAt, Stands, brought}
+use Rattle.hold.specs.declared.Standing.{Standing}
+use Rattle.hold.specs.Ready.{readingIn, ready}
+use Rattle.hold.specs.Held.{blockFits, fits, waitingAt}
+use Rattle.hold.specs.Parts.{PartWritten}
+use Rattle.hold.specs.Between.{numbersAt, holdAt, Stands, brought}
 use Rattle.tables.specs.Table.{table}
 
 -- 512 bytes of f from a place on, zeros past its end

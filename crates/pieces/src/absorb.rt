@@ -1,15 +1,15 @@
 // The blocks of an accepted piece, one after another: the first from what was kept of it and the piece, the others from the piece.
-// Rests on hold, for a block more, on held, on blocks and tables.
+// Rests on hold_either, for a block more, on hold, on blocks and tables.
 use blocks::BLOCK;
 use blocks::FilePlace;
-use held::Standing;
+use hold::Standing;
 ghost use mathlib.Core.Path.{_≡_};
 ghost use mathlib.Core.List.{List};
 ghost use mathlib.Core.Bool.{true, false};
 ghost use Prim.Native.Nat.{ℕ, _+_, _*_, _-_, _≤_, _<_};
 ghost use lib.ListN.{length};
 ghost use Rattle.blocks.specs.Places.{limit, wholeBlocks};
-ghost use Rattle.held.specs.Between.{Added};
+ghost use Rattle.hold.specs.Between.{Added};
 ghost use Rattle.pieces.specs.Joined.{bytesFrom, Joins, Able, Coming, Absorbed};
 
 // Makes of `partial` the 512 bytes from `place` on: those that it has, those of the piece, then zeros.
@@ -23,7 +23,7 @@ fn renew(partial: &mut [u8; 512], piece: &[u8], taken: usize, place: usize)
     let at = crate::past(place, taken);
     let n = end - kept;
     tables::copy(partial, kept, piece, at, n);
-    held::bytes::clear(partial, end, BLOCK - end);
+    hold::bytes::clear(partial, end, BLOCK - end);
 }
 
 // Adds block b of the bytes joined.
@@ -47,7 +47,7 @@ fn take_block(
 {
     let place = a.0 + BLOCK * b;
     if taken <= place {
-        return hold::add_block(
+        return hold_either::add_block(
             dss,
             was,
             b,
@@ -63,7 +63,7 @@ fn take_block(
     renew(partial, piece, taken, place);
     // a copy, so that nothing is lent of what is kept: the reader is then taken apart by the compiler
     let block = *partial;
-    hold::add_block(dss, was, b, hold, waiting, &block, 0, number, out, counts)
+    hold_either::add_block(dss, was, b, hold, waiting, &block, 0, number, out, counts)
 }
 
 // For the crates above. Adds all blocks that are whole with the piece, if it is accepted, and keeps the bytes of the one that is not.

@@ -1,13 +1,13 @@
 // What a piece would bring, with nothing written: whether every block fits in the hold, and how many packets become ready.
-// Rests on held, for a block's run and the closed forms of a walk, on refusals, blocks and tables.
+// Rests on hold, for a block's run and the closed forms of a walk, on refusals, blocks and tables.
 use crate::Surveyed;
 use crate::Verdict;
 use blocks::BLOCK;
 use blocks::FilePlace;
 use blocks::LIMIT;
 use blocks::PAYLOAD;
-use held::HOLD;
-use held::Standing;
+use hold::HOLD;
+use hold::Standing;
 use refusals::Refusal;
 use sp::Run;
 ghost use mathlib.Core.Path.{_≡_};
@@ -21,8 +21,8 @@ ghost use Rattle.blocks.specs.Headers.{Bytes, headerByte, announcedIn};
 ghost use Rattle.refusals.specs.Said.{answers, demand};
 ghost use Rattle.sp.specs.ReadLists.{dssRun};
 ghost use Rattle.sp.specs.Outcome.{demuxedSays};
-ghost use Rattle.held.specs.Ready.{ready};
-ghost use Rattle.held.specs.Held.{blockFits, fits, headersFrom};
+ghost use Rattle.hold.specs.Ready.{ready};
+ghost use Rattle.hold.specs.Held.{blockFits, fits, headersFrom};
 ghost use Rattle.pieces.specs.Joined.{Joins, Known, judged, accepts};
 
 // The byte at place p of the bytes joined; `tail` is where the block begins that was not whole before.
@@ -60,7 +60,7 @@ fn block_fits(first: u8, announced: usize, b: usize) -> bool
     requires { ⌜ (b ≤ 524288) × (announced ≤ 255 * b) ⌝ }
     ensures { λ r. ⌜ ((f : List ℕ) (a : ℕ) → Bytes f → announced ≡ announcedIn f a b → (0 < b → first ≡ headerByte f a 0 0) → r ≡ blockFits false f a b) ⌝ }
 {
-    let swap = held::waiting::flag(first);
+    let swap = hold::waiting::flag(first);
     let ready = tables::lesser(announced, packets::reads_within(swap, PAYLOAD * b));
     let base = packets::reach(swap, ready);
     PAYLOAD * (b + 1) <= base + HOLD
@@ -119,7 +119,7 @@ fn run_at(
 {
     let had = blocks::whole_blocks(taken, a);
     if block < had {
-        return held::waiting::waiting_run(waiting, block - j, block);
+        return hold::waiting::waiting_run(waiting, block - j, block);
     }
     let begin = a.0;
     let tail = begin + BLOCK * had;
@@ -127,7 +127,7 @@ fn run_at(
     let byte0 = joined_byte(partial, piece, taken, tail, at);
     let byte1 = joined_byte(partial, piece, taken, tail, at + 1);
     let byte2 = joined_byte(partial, piece, taken, tail, at + 2);
-    held::waiting::block_run(block, byte0, byte1, byte2)
+    hold::waiting::block_run(block, byte0, byte1, byte2)
 }
 
 // How many packets of a DSS recording are ready with the piece.
@@ -151,7 +151,7 @@ fn dss_ready(
     while block < end {
         let run = run_at(a, taken, j, partial, waiting, piece, block);
         let count = run.count;
-        if long < held::places::ends_at(run) {
+        if long < hold::places::ends_at(run) {
             return ready;
         }
         ready += count;
@@ -191,7 +191,7 @@ fn judge_ds2(
     let had = was.ready;
     let found = look_over(a, taken, was, partial, piece);
     let end = blocks::whole_blocks(taken + piece.len(), a);
-    let swap = held::waiting::flag(found.first);
+    let swap = hold::waiting::flag(found.first);
     let ready = tables::lesser(found.announced, packets::reads_within(swap, PAYLOAD * end));
     let needed = crate::past(ready, had);
     weigh(found.fits, needed, room)

@@ -25,7 +25,7 @@ use Rattle.sp.specs.declared.Demuxed.{Demuxed}
 use Rattle.sp.specs.Readings.{Reading, total, readBy, dssReading, ds2Reading}
 use Rattle.sp.specs.Outcome.{outAfter, countsAfter, demuxedSays, Demuxes}
 use Rattle.sp.proofs.Outcome.{accepted-read}
-use Rattle.held.specs.Ready.{readingIn}
+use Rattle.hold.specs.Ready.{readingIn}
 use Rattle.reader.specs.State.{isDss, startOf, readingBy}
 use Rattle.reader.specs.Agreement.{wholeReading, Agrees}
 use Rattle.reader.proofs.Parts.{Part, part-whole}

@@ -17,8 +17,8 @@ use Rattle.sp.specs.ReadLists.{dssRun, dssRuns}
 use Rattle.sp.specs.Readings.{CompleteAt}
 use Rattle.sp.proofs.Runs.{carryPast}
 use Rattle.sp.proofs.ReadLists.{dss-stands}
-use Rattle.held.specs.Ready.{readingIn, endsAt, readIn, front, ready}
-use Rattle.held.proofs.Ready.{dss-ready, dss-exactly, ready-complete}
+use Rattle.hold.specs.Ready.{readingIn, endsAt, readIn, front, ready}
+use Rattle.hold.proofs.Ready.{dss-ready, dss-exactly, ready-complete}
 use Rattle.reader.specs.History.{CompleteUpto}
 
 module _ (f : List ℕ) (a n : ℕ) where

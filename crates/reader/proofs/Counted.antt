@@ -14,7 +14,7 @@ use Rattle.refusals.specs.Said.{answers, refusal}
 use Rattle.refusals.proofs.Said.{by-said}
 use Rattle.sp.specs.Readings.{Reading, total}
 use Rattle.sp.specs.Outcome.{roomIn, demuxedSays}
-use Rattle.held.proofs.Ready.{total-is, ready-within}
+use Rattle.hold.proofs.Ready.{total-is, ready-within}
 use Rattle.reader.specs.declared.Reader.{Reader}
 use Rattle.reader.specs.declared.Step.{Step}
 use Rattle.reader.specs.State.{State, isKind, isDss, startOf, blocksIn, readingBy, owed, Reached}

@@ -15,13 +15,13 @@ use Rattle.refusals.specs.Said.{answers, demand}
 use Rattle.sp.specs.declared.Demuxed.{Demuxed}
 use Rattle.sp.specs.Readings.{Reading}
 use Rattle.sp.specs.Outcome.{roomIn, demuxedSays}
-use Rattle.held.specs.Ready.{readingIn, ready}
-use Rattle.held.specs.Held.{baseAt, fits}
-use Rattle.held.specs.Parts.{carryAt, PartWritten}
-use Rattle.held.specs.Owed.{Owing}
-use Rattle.held.proofs.Leading.{never}
-use Rattle.held.proofs.Front.{fits-each}
-use Rattle.held.proofs.Longer.{base-grows-in}
+use Rattle.hold.specs.Ready.{readingIn, ready}
+use Rattle.hold.specs.Held.{baseAt, fits}
+use Rattle.hold.specs.Parts.{carryAt, PartWritten}
+use Rattle.hold.specs.Owed.{Owing}
+use Rattle.hold.proofs.Leading.{never}
+use Rattle.hold.proofs.Front.{fits-each}
+use Rattle.hold.proofs.Longer.{base-grows-in}
 use Rattle.reader.specs.declared.Reader.{Reader}
 use Rattle.reader.specs.State.{State, isDss, startOf, blocksIn, readingBy, handed, owed, readerOf, headerFull, headerDone, Sound, Reached}
 use Rattle.reader.specs.Calls.{lenientSaid, afterLenient, EndsLeniently}

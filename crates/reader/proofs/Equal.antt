@@ -13,8 +13,8 @@ use Rattle.refusals.specs.Said.{answers, refuses}
 use Rattle.sp.specs.declared.Demuxed.{Demuxed}
 use Rattle.sp.specs.Readings.{Reading, total, CompleteAt}
 use Rattle.sp.specs.Outcome.{demuxedSays, Demuxes}
-use Rattle.held.specs.Held.{fitting}
-use Rattle.held.proofs.Ready.{total-is, ds2-exactly}
+use Rattle.hold.specs.Held.{fitting}
+use Rattle.hold.proofs.Ready.{total-is, ds2-exactly}
 use Rattle.reader.specs.declared.Reader.{Reader}
 use Rattle.reader.specs.declared.Step.{Step}
 use Rattle.reader.specs.State.{State, isKind, isDss, startOf, blocksIn, announcedBy, readingBy, readyBy, fitsBy, opened}

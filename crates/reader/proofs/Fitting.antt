@@ -10,10 +10,10 @@ use lib.ListN.{length, length-append}
 use lib.Dec.{eqb, leb}
 use Rattle.tables.proofs.Cases.{by-order}
 use Rattle.blocks.specs.Places.{wholeBlocks}
-use Rattle.held.specs.Held.{blockFits, fitting, fits}
-use Rattle.held.proofs.Leading.{leading-fewer}
-use Rattle.held.proofs.Front.{each-fits}
-use Rattle.held.proofs.Longer.{fitting-kept}
+use Rattle.hold.specs.Held.{blockFits, fitting, fits}
+use Rattle.hold.proofs.Leading.{leading-fewer}
+use Rattle.hold.proofs.Front.{each-fits}
+use Rattle.hold.proofs.Longer.{fitting-kept}
 
 -- that the smaller of two numbers is the first says that the first is no more than the second
 least-is-first : (n most : ℕ) → eqb (min n most) n ≡ leb n most

@@ -19,13 +19,13 @@ use Rattle.refusals.specs.Said.{answers, demand}
 use Rattle.sp.specs.declared.Demuxed.{Demuxed}
 use Rattle.sp.specs.Outcome.{demuxedSays}
 use Rattle.sp.proofs.Runs.{carry-at-first}
-use Rattle.held.specs.declared.Standing.{Standing}
-use Rattle.held.specs.Ready.{readingIn, front, ready}
-use Rattle.held.specs.Held.{heldFrom, baseAt, fits, headersFrom, waitingAt, firstByte}
-use Rattle.held.specs.Parts.{carryAt}
-use Rattle.held.specs.Between.{holdAt, Stands}
-use Rattle.held.proofs.Ready.{ready-within, ready-none, base-within}
-use Rattle.held.proofs.Front.{each-fits}
+use Rattle.hold.specs.declared.Standing.{Standing}
+use Rattle.hold.specs.Ready.{readingIn, front, ready}
+use Rattle.hold.specs.Held.{heldFrom, baseAt, fits, headersFrom, waitingAt, firstByte}
+use Rattle.hold.specs.Parts.{carryAt}
+use Rattle.hold.specs.Between.{holdAt, Stands}
+use Rattle.hold.proofs.Ready.{ready-within, ready-none, base-within}
+use Rattle.hold.proofs.Front.{each-fits}
 use Rattle.reader.specs.declared.Reader.{Reader}
 use Rattle.pieces.specs.Joined.{bytesFrom}
 use Rattle.reader.specs.State.{State, isKind, isDss, startOf, blocksIn, readyBy, handed, readerOf, Sound}

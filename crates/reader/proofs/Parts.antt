@@ -14,9 +14,9 @@ use Rattle.tables.proofs.Lent.{over-long, over-in}
 use Rattle.sp.specs.Readings.{Reading, total, joinedByteAt, fileCountAt}
 use Rattle.sp.specs.Outcome.{roomIn}
 use Rattle.sp.specs.Longer.{SameAt}
-use Rattle.held.specs.Ready.{ready}
-use Rattle.held.proofs.Ready.{ready-none}
-use Rattle.held.proofs.Longer.{ready-same, ready-grows}
+use Rattle.hold.specs.Ready.{ready}
+use Rattle.hold.proofs.Ready.{ready-none}
+use Rattle.hold.proofs.Longer.{ready-same, ready-grows}
 use Rattle.reader.specs.State.{isDss, startOf, blocksIn, readingBy, readyBy}
 use Rattle.reader.specs.History.{packetsFrom, countsFrom}
 

@@ -19,14 +19,14 @@ use Rattle.refusals.specs.Said.{Said, answers, refusal, demand}
 use Rattle.refusals.proofs.Said.{by-said}
 use Rattle.sp.specs.declared.Demuxed.{Demuxed}
 use Rattle.sp.specs.Outcome.{roomIn, demuxedSays}
-use Rattle.held.specs.declared.Standing.{Standing}
-use Rattle.held.specs.Ready.{ready}
-use Rattle.held.specs.Held.{fits, waitingAt}
-use Rattle.held.specs.Parts.{PartWritten}
-use Rattle.held.specs.Between.{numbersAt, holdAt, Stands}
-use Rattle.held.proofs.Leading.{never}
-use Rattle.held.proofs.Ready.{ready-within}
-use Rattle.held.proofs.Longer.{ready-kept, base-kept, hold-kept, waiting-kept, first-kept, fits-kept, carry-same}
+use Rattle.hold.specs.declared.Standing.{Standing}
+use Rattle.hold.specs.Ready.{ready}
+use Rattle.hold.specs.Held.{fits, waitingAt}
+use Rattle.hold.specs.Parts.{PartWritten}
+use Rattle.hold.specs.Between.{numbersAt, holdAt, Stands}
+use Rattle.hold.proofs.Leading.{never}
+use Rattle.hold.proofs.Ready.{ready-within}
+use Rattle.hold.proofs.Longer.{ready-kept, base-kept, hold-kept, waiting-kept, first-kept, fits-kept, carry-same}
 use Rattle.reader.specs.declared.Reader.{Reader}
 use Rattle.reader.specs.declared.Step.{Step}
 use Rattle.pieces.specs.Joined.{bytesFrom}

@@ -11,8 +11,8 @@ use Rattle.blocks.specs.Headers.{Bytes}
 use Rattle.refusals.specs.declared.Refusal.{Refusal}
 use Rattle.refusals.specs.Said.{answers, refuses, refusal}
 use Rattle.sp.specs.Outcome.{demuxedSays}
-use Rattle.held.proofs.Leading.{never}
-use Rattle.held.proofs.Front.{dss-fits}
+use Rattle.hold.proofs.Leading.{never}
+use Rattle.hold.proofs.Front.{dss-fits}
 use Rattle.reader.specs.declared.Reader.{Reader}
 use Rattle.reader.specs.declared.Step.{Step}
 use Rattle.reader.specs.State.{State, isDss, startOf, blocksIn, opened, unopened, owed, readerOf, headerDone, Sound, Reached}

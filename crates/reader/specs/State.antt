@@ -9,10 +9,10 @@ use lib.Dec.{eqb, leb}
 use Rattle.blocks.specs.Places.{limit, wholeBlocks, blockAt}
 use Rattle.blocks.specs.Headers.{Bytes, announcedIn}
 use Rattle.sp.specs.Readings.{Reading}
-use Rattle.held.specs.Ready.{readingIn, ready}
-use Rattle.held.specs.Held.{baseAt, fits, waitingAt, firstByte}
-use Rattle.held.specs.Parts.{carryAt}
-use Rattle.held.specs.Between.{holdAt}
+use Rattle.hold.specs.Ready.{readingIn, ready}
+use Rattle.hold.specs.Held.{baseAt, fits, waitingAt, firstByte}
+use Rattle.hold.specs.Parts.{carryAt}
+use Rattle.hold.specs.Between.{holdAt}
 use Rattle.pieces.specs.Joined.{bytesFrom}
 use Rattle.reader.specs.declared.Reader.{Reader}
 

@@ -1,10 +1,10 @@
 // Reading in pieces: a Reader takes an SP recording's bytes in any cut, hands out packets as they become ready, and ends strictly or
-// leniently. What `Ds2SpStreamDemuxer` and `DssSpStreamDemuxer` do. Rests on pieces, for a piece, on held and hold, for packets that are
-// owed, on sp, for the answer's form, on packets, refusals, blocks and tables.
+// leniently. What `Ds2SpStreamDemuxer` and `DssSpStreamDemuxer` do. Rests on pieces, for a piece, on hold and hold_either, for packets that
+// are owed, on sp, for the answer's form, on packets, refusals, blocks and tables.
 use blocks::BLOCK;
 use blocks::FilePlace;
 use blocks::StreamPlace;
-use held::Standing;
+use hold::Standing;
 use packets::PACKET;
 use pieces::Verdict;
 use refusals::Refusal;
@@ -274,7 +274,7 @@ impl Reader {
         let some = tables::lesser(room_for(out.len(), counts.len()), owed);
         let blocks = blocks::whole_blocks(taken, a);
         let waiting = self.waiting;
-        let carry = hold::write_owed(
+        let carry = hold_either::write_owed(
             dss,
             was,
             blocks,

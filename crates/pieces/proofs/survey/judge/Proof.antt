@@ -1,7 +1,7 @@
 -- `pieces::survey::judge` meets its contract: by the kind; every DSS block fits.
 -- Assumes nothing.
 use mathlib.Core.Path.{sym, _∙_}
-use Rattle.held.proofs.Front.{dss-fits}
+use Rattle.hold.proofs.Front.{dss-fits}
 use Rattle.pieces.proofs.Judging.{judged-by}
 use borrow.Author.Needs.{needs}
 use Rattle.pieces.proofs.survey.judge.Statement.{statement}

@@ -1,0 +1,58 @@
+-- `hold::bytes::clear` meets its contract: the places so far are 0, and no other changes.
+-- Assumes nothing.
+use Prim.Native.Nat.{_-_, _≤_}
+use mathlib.Core.Path.{refl}
+use Rattle.tables.specs.Lent.{Leaves}
+use Rattle.tables.proofs.Lent.{leaves-none, leaves-more, leaves-to}
+use borrow.Author.Needs.{needs}
+use Rattle.hold.proofs.bytes.clear.Statement.{statement}
+use Rattle.hold.proofs.bytes.clear.Tie as tie
+
+abbrev Inv-loop : tie.InvT-loop
+Inv-loop list₀ from n k₀ list k = (k ≤ n) × Leaves list₀ from k (λ j. 0) list
+
+abbrev μ-loop : tie.MeasureT-loop
+μ-loop list₀ from n k₀ list k = n - k
+
+loop-holds : tie.Need-loop-holds Inv-loop μ-loop
+loop-holds c = (search needs, leaves-none _ _ _)
+
+add-list : tie.Need-add-list Inv-loop μ-loop
+add-list c = search needs
+
+slice-write-list : tie.Need-slice-write-list Inv-loop μ-loop
+slice-write-list c = search needs
+
+add-k : tie.Need-add-k Inv-loop μ-loop
+add-k c = search needs
+
+loop-less : tie.Need-loop-less Inv-loop μ-loop
+loop-less c = search needs
+
+loop-again : tie.Need-loop-again Inv-loop μ-loop
+loop-again c =
+    let l = c .before .loop in
+    (search needs, leaves-more _ _ (l .k) _ (l .list) _ (search needs) refl (l .inv .1))
+
+same-length : tie.Need-same-length Inv-loop μ-loop
+same-length c = search needs
+
+returns : tie.Need-returns Inv-loop μ-loop
+returns c =
+    let l = c .before .loop in
+    leaves-to (search needs) (l .inv .1)
+
+pub clear-spec : {M : Type 1} → statement M
+clear-spec =
+    tie.close
+    (tie.spec
+    Inv-loop
+    μ-loop
+    loop-holds
+    add-list
+    slice-write-list
+    add-k
+    loop-less
+    loop-again
+    same-length
+    returns)

@@ -1,0 +1,3 @@
+-- The laws that belong to no one function. They rest on the definitions of the crate hold.
+pub mod DssBlock
+pub mod Passing

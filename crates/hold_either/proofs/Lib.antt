@@ -1,0 +1,2 @@
+-- The laws that belong to no one function. They rest on the definitions of the crate hold.
+pub mod Owing

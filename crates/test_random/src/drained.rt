@@ -1,0 +1,104 @@
+// One file in pieces: what a reader hands out that is fed it and drained, against the file's whole reading. Rests on reader,
+// test_feeding, test_ends, test_generated, test_readings, test_sums and test_tools.
+use test_ends::drained_by_64;
+use test_ends::strict_said;
+use test_generated::Made;
+use test_generated::tried::Tried;
+use test_generated::tried::show_cuts;
+use test_generated::tried::with_cut;
+use reader::Reader;
+use test_readings::Whole;
+use test_sums::Sums;
+use test_tools::Cuts;
+
+// What a file gives in pieces and to the drained end: what the pieces brought, the frames owed then, the strict end's refusal, and all that
+// came out.
+struct ToTheEnd {
+    came: Sums,
+    owed: usize,
+    strict: Sums,
+    all: Sums,
+}
+
+// Opens a reader, feeds it the file and drains it.
+fn drained(kind: u64, file: &[u8], cuts: Cuts, out: &mut [u8], counts: &mut [u8]) -> ToTheEnd {
+    let step = Reader::open(kind);
+    let reader = step.reader;
+    let fed = test_feeding::feed(reader, file, cuts, out, counts);
+    let came = fed.sums;
+    let taken = fed.reader;
+    let owed = taken.owed();
+    let strict = strict_said(taken);
+    let all = drained_by_64(taken, came);
+    ToTheEnd {
+        came,
+        owed,
+        strict,
+        all,
+    }
+}
+
+// What the strict end says: 13 inside a block, and else 14 if frames are owed.
+fn strict_number(cut: usize, owed: usize) -> u64 {
+    if cut != 0 {
+        return 13;
+    }
+    if owed != 0 { 14 } else { 0 }
+}
+
+// A reader that took the whole file and was drained: nothing announced goes uncounted before the end, the strict end tells the bytes inside a
+// block or the frames owed, and all packets are the whole reading's after it.
+fn end_differs(number: u64, cut: usize, whole: Whole, drained: ToTheEnd) -> usize {
+    let came = drained.came;
+    let strict = drained.strict;
+    let all = drained.all;
+    let owed = drained.owed;
+    let expected = [
+        whole[test_readings::ANNOUNCED],
+        strict_number(cut, owed),
+        if cut != 0 { cut as u64 } else { owed as u64 },
+        whole[test_readings::MANY],
+        whole[test_readings::DIGEST],
+        whole[test_readings::DIGEST_OF_COUNTS],
+    ];
+    let got = [
+        std::num::wrapping_add_u64(came[test_sums::PACKETS], owed as u64),
+        strict[test_sums::NUMBER],
+        strict[test_sums::BESIDE],
+        all[test_sums::PACKETS],
+        all[test_sums::BYTES],
+        all[test_sums::COUNTS],
+    ];
+    test_tools::all_differ(b"pieces of file ", number, &expected, &got, 6)
+}
+
+// How many answers to a file cut in one way are not the whole reading's. Only a DS2 piece may be refused, and only by 7.
+fn cut_differs(number: u64, made: Made, whole: Whole, drained: ToTheEnd) -> usize {
+    let came = drained.came;
+    let refusal = came[test_sums::NUMBER];
+    if refusal != 0 {
+        let seven = if made.kind == 0 { 7 } else { 0 };
+        return test_tools::differs(b"refused piece of file ", number, 1, seven, refusal);
+    }
+    end_differs(number, made.cut, whole, drained)
+}
+
+// One file cut in one way.
+pub fn try_cut(
+    before: Tried,
+    number: u64,
+    file: &[u8],
+    made: Made,
+    whole: Whole,
+    cuts: Cuts,
+    out: &mut [u8],
+    counts: &mut [u8],
+) -> Tried {
+    let drained = drained(made.kind, file, cuts, out, counts);
+    let came = drained.came;
+    let wrong = cut_differs(number, made, whole, drained);
+    if wrong != 0 {
+        show_cuts(number, cuts);
+    }
+    with_cut(before, came[test_sums::PACKETS], came[test_sums::NUMBER], wrong)
+}

@@ -1,0 +1,206 @@
+// One file's whole reading and its tally, in numbers. All of it is for the crates above. Rests on the whole calls and the tally, on
+// test_generated, and on test_fetched, test_sums, test_tools and tables.
+use test_fetched::Gathered;
+use test_fetched::qp_said;
+use test_fetched::qp7_said;
+use test_generated::Made;
+use test_sums::BESIDE;
+use test_sums::BYTES;
+use test_sums::COUNTS;
+use test_sums::NUMBER;
+use test_sums::PACKETS;
+use tally::FileKind;
+use tally::Tallied;
+
+// A file's whole reading: the nine numbers that a tally has of it, and digests of its packets and of their counts.
+pub type Whole = [u64; 11];
+
+// How many frames it announces, how many packets, frames or records it hands out, and the digests.
+pub const ANNOUNCED: usize = 5;
+
+pub const MANY: usize = 6;
+
+pub const DIGEST: usize = 9;
+
+pub const DIGEST_OF_COUNTS: usize = 10;
+
+fn byte(file: &[u8], at: usize) -> usize {
+    if at < file.len() {
+        tables::wide(file[at])
+    } else {
+        0
+    }
+}
+
+// How many of some packets in a row are short, by their counts.
+fn short_in_run(counts: &[u8], first: usize, many: usize, swap: bool) -> usize {
+    let mut short: usize = 0;
+    let mut k = 0;
+    while k < many {
+        let size = if (k % 2 == 0) == swap { 40 } else { 42 };
+        if byte(counts, test_tools::sum(first, k)) != size {
+            short = test_tools::sum(short, 1);
+        }
+        k += 1;
+    }
+    short
+}
+
+// How many packets of a DSS file are short: each block begins by its own flag.
+fn short_in_dss(file: &[u8], made: Made, counts: &[u8]) -> usize {
+    let mut short: usize = 0;
+    let mut first: usize = 0;
+    let mut place = made.start;
+    let mut block = 0;
+    while block < made.blocks {
+        let many = byte(file, test_tools::sum(place, 2));
+        let swap = 128 <= byte(file, place);
+        short = test_tools::sum(short, short_in_run(counts, first, many, swap));
+        first = test_tools::sum(first, many);
+        place = test_tools::sum(place, 512);
+        block += 1;
+    }
+    short
+}
+
+// How many file bytes so many packets have.
+fn sum_of(counts: &[u8], many: usize) -> usize {
+    let mut sum: usize = 0;
+    let mut k = 0;
+    while k < many {
+        sum = test_tools::sum(sum, byte(counts, k));
+        k += 1;
+    }
+    sum
+}
+
+fn short_in(file: &[u8], made: Made, ds2: bool, counts: &[u8], many: usize) -> usize {
+    if ds2 {
+        return short_in_run(counts, 0, many, 128 <= byte(file, made.start));
+    }
+    short_in_dss(file, made, counts)
+}
+
+// A refused reading has 0 for each of its other numbers.
+fn refused(number: u64, beside: u64) -> Whole {
+    [number, beside, 0, 0, 0, 0, 0, 0, 0, 0, 0]
+}
+
+// What the SP call of a family handed out, in so many packets.
+fn read_sp(file: &[u8], made: Made, ds2: bool, came: test_sums::Sums, counts: &[u8]) -> Whole {
+    let many = came[PACKETS];
+    [
+        0,
+        0,
+        if ds2 { 1 } else { 0 },
+        made.start as u64,
+        made.blocks as u64,
+        many,
+        many,
+        short_in(file, made, ds2, counts, many as usize) as u64,
+        sum_of(counts, many as usize) as u64,
+        came[BYTES],
+        came[COUNTS],
+    ]
+}
+
+// The whole SP reading, as DS2 or as DSS.
+fn whole_sp(file: &[u8], made: Made, ds2: bool, out: &mut [u8], counts: &mut [u8]) -> Whole {
+    let answer = test_sums::demux(file, !ds2, out, counts);
+    let came = test_sums::told(answer, out, counts);
+    if came[NUMBER] != 0 {
+        return refused(came[NUMBER], came[BESIDE]);
+    }
+    read_sp(file, made, ds2, came, counts)
+}
+
+// What a table hands out, of a kind and so many frames announced.
+fn gathered(kind: u64, made: Made, announced: u64, all: Gathered) -> Whole {
+    [
+        0,
+        0,
+        kind,
+        made.start as u64,
+        made.blocks as u64,
+        announced,
+        all.many as u64,
+        all.short as u64,
+        all.bytes as u64,
+        all.digest,
+        0,
+    ]
+}
+
+fn whole_qp(file: &[u8], made: Made) -> Whole {
+    let mut table = [0u32; 256];
+    let said = qp_said(qp::demux_ds2_qp(file, &mut table));
+    if said[0] != 0 {
+        return refused(said[0], said[1]);
+    }
+    let all = test_fetched::of_segments(file, &table, said[2] as usize);
+    gathered(2, made, said[3], all)
+}
+
+fn whole_qp7(file: &[u8], made: Made) -> Whole {
+    let mut records = [0u32; 512];
+    let mut segments = [0u32; 256];
+    let said = qp7_said(qp7::demux_ds2_qp7(file, &mut records, &mut segments));
+    if said[0] != 0 {
+        return refused(said[0], said[1]);
+    }
+    let all = test_fetched::of_records(file, &records, &segments, said[3] as usize);
+    gathered(3, made, said[2], all)
+}
+
+// The table reading of a QP or QP7 file.
+fn whole_table(file: &[u8], made: Made) -> Whole {
+    if made.kind == 6 {
+        return whole_qp(file, made);
+    }
+    whole_qp7(file, made)
+}
+
+// The whole reading of any file. One of QP or QP7 blocks that announce nothing has type 0, and is read as DS2 SP.
+pub fn whole(file: &[u8], made: Made, out: &mut [u8], counts: &mut [u8]) -> Whole {
+    if made.kind < 6 {
+        return whole_sp(file, made, made.kind == 0, out, counts);
+    }
+    let read = whole_table(file, made);
+    if read[0] != 11 {
+        return read;
+    }
+    whole_sp(file, made, true, out, counts)
+}
+
+// A kind by its number: 0 DSSSP, 1 DS2SP, 2 DS2QP, 3 DS2QP7.
+fn kind_number(kind: FileKind) -> u64 {
+    match kind {
+        FileKind::DssSp => 0,
+        FileKind::Ds2Sp => 1,
+        FileKind::Ds2Qp => 2,
+        FileKind::Ds2Qp7 => 3,
+    }
+}
+
+// The tally in numbers: refusal and beside; kind, audio start and blocks; and the frames that are announced, and what is handed out, how much
+// of it short, and its bytes.
+pub fn tallied(file: &[u8]) -> [u64; 9] {
+    let answer = tally::tally(file);
+    match answer {
+        Tallied::Refused(why) => [why.number, why.beside, 0, 0, 0, 0, 0, 0, 0],
+        Tallied::Counted(figures) => {
+            let kind = figures.kind;
+            [
+                0,
+                0,
+                kind_number(kind),
+                figures.start.0 as u64,
+                figures.blocks as u64,
+                figures.announced as u64,
+                figures.out.many as u64,
+                figures.out.short as u64,
+                figures.out.bytes,
+            ]
+        }
+    }
+}

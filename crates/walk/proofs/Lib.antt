@@ -1,3 +1,0 @@
--- The laws that belong to no one function. They rest on the definitions of the crate held.
-pub mod Walks
-pub mod Ds2Block
