@@ -13,9 +13,10 @@ import sys
 SCALARS = {"u8": ("uint8_t", 1), "u32": ("uint32_t", 4), "u64": ("uint64_t", 8), "usize": ("size_t", 8)}
 RATTLE = "crates/klovdrun/src/lib.rt"
 STRUCTS = {"Reader": "crates/reader/src/lib.rt", "Answer": "crates/numbers/src/lib.rt", "Tallied": "crates/numbers/src/lib.rt", "Opened": RATTLE}
-CONSTANTS = {"LIMIT": "blocks", "PACKET": "packets", "FRAME": "frames", "PAYLOAD": "blocks", "BLOCK": "blocks", "HOLD": "held"}
-IN_HEADER = ("LIMIT", "PACKET", "FRAME", "PAYLOAD")
-IN_RUST = ("LIMIT", "PACKET", "FRAME", "PAYLOAD", "BLOCK")
+CONSTANTS = {"LIMIT": "blocks::LIMIT", "PACKET": "packets::PACKET", "FRAME": "frames::FRAME", "PAYLOAD": "blocks::PAYLOAD",
+             "BLOCK": "blocks::BLOCK", "HOLD": "hold::HOLD", "QP_WORDS": "qp::ENTRY", "QP7_WORDS": "qp7::ENTRY"}
+IN_HEADER = ("LIMIT", "PACKET", "FRAME", "PAYLOAD", "QP_WORDS", "QP7_WORDS")
+IN_RUST = ("LIMIT", "PACKET", "FRAME", "PAYLOAD", "BLOCK", "QP_WORDS", "QP7_WORDS")
 BESIDE = {2: "LIMIT", 7: "HOLD"}  # refusals whose number beside is a constant
 wrong = []
 
@@ -131,7 +132,8 @@ def check_c(header):
 
 
 def constant(name):
-    found = re.search(rf"pub const {name}: usize = (\w+);", text(f"crates/{CONSTANTS[name]}/src/lib.rt"))
+    crate, here = CONSTANTS[name].split("::")
+    found = re.search(rf"pub const {here}: usize = (\w+);", text(f"crates/{crate}/src/lib.rt"))
     return int(found.group(1).replace("_", ""), 0)
 
 

@@ -4,6 +4,7 @@ use crate::demux::ds2::DemuxedDs2;
 use crate::files::{file_place, Kind, Recording, BLOCK};
 use crate::jobs::{Job, Way};
 use crate::original;
+use ours::{QP7_WORDS, QP_WORDS};
 
 /// Whether the two agree on this recording, and each unit is there.
 pub fn agree(job: Job, recording: &Recording) -> bool {
@@ -60,7 +61,7 @@ fn qp(job: Job, recording: &Recording) -> bool {
         _ => return false,
     };
     segments == other.len()
-        && room.first.chunks(4).zip(&other).all(|(row, other)| {
+        && room.first.chunks(QP_WORDS).zip(&other).all(|(row, other)| {
             let [start, length, frames, reset] = [row[0], row[1], row[2], row[3]].map(|word| word as usize);
             stream[start..start + length] == other.stream && frames == other.total_frames && (reset == 1) == other.reset_before
         })
@@ -76,7 +77,7 @@ fn qp7(job: Job, recording: &Recording) -> bool {
     };
     let size = |place| if recording.file[file_place(job.kind.start(), place + 1)] & 0x80 == 0 { 12 } else { 56 };
     let one = room.first[..records].iter().map(|&place| place as usize).map(|place| &stream[place..place + size(place)]);
-    let rows = room.second.chunks(3).take(segments).map(|row| (row[1] as usize, row[2] == 1));
+    let rows = room.second.chunks(QP7_WORDS).take(segments).map(|row| (row[1] as usize, row[2] == 1));
     records == recording.units
         && rows.eq(other.iter().map(|segment| (segment.total_frames, segment.reset_before)))
         && one.eq(other.iter().flat_map(|segment| segment.records.iter().map(|record| &record[..])))

@@ -2,7 +2,7 @@
 // the module `original`.
 use crate::files::{Kind, Recording};
 use crate::original;
-use ours::Room;
+use ours::{Room, QP7_WORDS, QP_WORDS};
 
 #[derive(Clone, Copy)]
 pub enum Way {
@@ -41,8 +41,8 @@ impl Job {
         match (self.way, self.kind) {
             (Way::Tally, _) => Room::for_packets(0),
             (Way::Pieces(bytes), _) => Room::for_piece(bytes),
-            (Way::Whole, Kind::Qp) => Room::for_words(4 * recording.units, 0),
-            (Way::Whole, Kind::Qp7) => Room::for_words(recording.units, 3 * recording.units),
+            (Way::Whole, Kind::Qp) => Room::for_words(QP_WORDS * recording.units, 0),
+            (Way::Whole, Kind::Qp7) => Room::for_words(recording.units, QP7_WORDS * recording.units),
             (Way::Whole, _) => Room::for_packets(recording.units),
         }
     }

@@ -11,6 +11,9 @@ mod error;
 mod raw;
 
 const PACKET: usize = 42;
+/// Words of a segment's entry, in a table of QP and in one of QP7.
+pub const QP_WORDS: usize = 4;
+pub const QP7_WORDS: usize = 3;
 /// A block announces at most 13 packets in the recordings that are measured, and a piece completes at most one block more than it has.
 const PACKETS_A_BLOCK: usize = 13;
 

@@ -6,6 +6,7 @@ use crate::lent::Lent;
 use crate::ours;
 use crate::score::Score;
 use crate::{ends, pieces, tables, whole, whole_sp};
+use klovdrun::{QP7_WORDS, QP_WORDS};
 
 /// Every comparison, some times over, since rooms and cuts are the dice's, and rooms by the byte.
 fn every(name: &str, file: &[u8], score: &mut Score) {
@@ -37,10 +38,10 @@ fn segments(file: &[u8], qp7: bool) -> ([u64; 4], Vec<u32>) {
     let (mut table, mut records) = (Lent::<u32>::new(99), Lent::<u32>::new(999));
     if qp7 {
         let numbers = ours::demux_ds2_qp7(file, records.part(), table.part());
-        (numbers, table.part()[..3 * numbers[3] as usize].to_vec())
+        (numbers, table.part()[..QP7_WORDS * numbers[3] as usize].to_vec())
     } else {
         let numbers = ours::demux_ds2_qp(file, table.part());
-        (numbers, table.part()[..4 * numbers[2] as usize].to_vec())
+        (numbers, table.part()[..QP_WORDS * numbers[2] as usize].to_vec())
     }
 }
 

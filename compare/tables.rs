@@ -7,6 +7,7 @@ use crate::differences::Name;
 use crate::lent::Lent;
 use crate::ours::{self, Numbers};
 use crate::score::Score;
+use klovdrun::{QP7_WORDS, QP_WORDS};
 use original::DemuxedDs2;
 
 /// A segment by its bytes, or its records' bytes; frames; reset.
@@ -76,12 +77,12 @@ fn qp(both: &Both, dice: &mut Dice, score: &mut Score) {
     let rows = model::qp(both.file, start);
     let words = qp_words(&rows);
     let announced = model::announced(both.file, start);
-    let (numbers, mut table) = ask_qp(both.file, ample(rows.len(), 4, dice));
+    let (numbers, mut table) = ask_qp(both.file, ample(rows.len(), QP_WORDS, dice));
     score.model(CALL, ([0, 0, rows.len() as u64, announced as u64], true), (numbers, table.holds(&words)));
     let theirs = both.ds2.as_ref().map(segments);
     score.original(CALL, theirs, Some(qp_segments(both.file, numbers, table.part())));
     if !rows.is_empty() {
-        let room = lacking(rows.len(), 4, dice);
+        let room = lacking(rows.len(), QP_WORDS, dice);
         score.named(Name::TableRoom, CALL, ([9, rows.len() as u64, 0, 0], true), nothing(room));
     }
 }
@@ -101,7 +102,7 @@ pub fn stream(file: &[u8]) -> Vec<u8> {
 /// Our rows in the original's form. A row that does not fit the stream has no bytes, which the original never says.
 fn qp_segments(file: &[u8], numbers: Numbers, table: &[u32]) -> (Vec<Segment>, usize) {
     let stream = stream(file);
-    let segments = table.chunks_exact(4).take(numbers[2] as usize).map(|row| {
+    let segments = table.chunks_exact(QP_WORDS).take(numbers[2] as usize).map(|row| {
         let (start, length) = (row[0] as usize, row[1] as usize);
         let bytes = stream.get(start..start.saturating_add(length)).unwrap_or(&[]).to_vec();
         (vec![bytes], row[2] as usize, row[3] != 0)
@@ -144,7 +145,7 @@ fn qp7(both: &Both, dice: &mut Dice, score: &mut Score) {
     match (model::qp7(both.file, start), &both.ds2) {
         (Ok(rows), Some(theirs @ Ok(_))) => {
             let sizes = (rows.iter().map(|row| row.records.len()).sum(), rows.len());
-            let room = (ample(sizes.0, 1, dice), ample(sizes.1, 3, dice));
+            let room = (ample(sizes.0, 1, dice), ample(sizes.1, QP7_WORDS, dice));
             read_qp7(both.file, &rows, theirs, room, score);
             short_qp7(CALL, sizes, nothing, dice, score);
         }
@@ -162,7 +163,7 @@ fn qp7(both: &Both, dice: &mut Dice, score: &mut Score) {
 fn qp7_words(rows: &[model::Records]) -> (Vec<u32>, Vec<u32>) {
     let mut words = Vec::new();
     for row in rows {
-        let first = words.chunks_exact(3).map(|row: &[u32]| row[1]).sum();
+        let first = words.chunks_exact(QP7_WORDS).map(|row: &[u32]| row[1]).sum();
         words.extend([first, row.records.len() as u32, u32::from(row.reset)]);
     }
     (rows.iter().flat_map(|row| row.records.iter().map(|&(place, _)| place as u32)).collect(), words)
@@ -184,7 +185,7 @@ fn qp7_segments(file: &[u8], numbers: Numbers, records: &[u32], table: &[u32]) -
         let end = place as usize + if long { 56 } else { 12 };
         stream.get(place as usize..end).unwrap_or(&[]).to_vec()
     };
-    let segments = table.chunks_exact(3).take(numbers[3] as usize).map(|row| {
+    let segments = table.chunks_exact(QP7_WORDS).take(numbers[3] as usize).map(|row| {
         let (first, many) = (row[0] as usize, row[1] as usize);
         let of_row = records.get(first..first.saturating_add(many)).unwrap_or(&[]);
         (of_row.iter().map(record).collect(), many, row[2] != 0)
@@ -201,9 +202,9 @@ where
         return;
     }
     let (few, enough) = (lacking(records, 1, dice), ample(records, 1, dice));
-    let segments = dice.pick(&[0, 3 * rows, 3 * rows + 2]);
+    let segments = dice.pick(&[0, QP7_WORDS * rows, QP7_WORDS * rows + 2]);
     score.named(Name::PacketRoom, call, ([8, records as u64, 0, 0], true), nothing((few, segments)));
-    let segments = lacking(rows, 3, dice);
+    let segments = lacking(rows, QP7_WORDS, dice);
     score.named(Name::TableRoom, call, ([9, rows as u64, 0, 0], true), nothing((enough, segments)));
 }
 
@@ -211,10 +212,10 @@ where
 pub fn rooms(both: &Both, score: &mut Score) {
     if let Ok((Kind::Qp, start)) = both.kind {
         let expected = qp_words(&model::qp(both.file, start));
-        let rows = expected.len() / 4;
+        let rows = expected.len() / QP_WORDS;
         for words in expected.len().saturating_sub(5)..expected.len() + 5 {
             let (numbers, table) = ask_qp(both.file, words);
-            if words / 4 < rows {
+            if words / QP_WORDS < rows {
                 let expected = ([9, rows as u64, 0, 0], true);
                 score.named(Name::TableRoom, "demux_ds2_qp", expected, (numbers, table.untouched()));
             } else {
@@ -232,14 +233,14 @@ pub fn rooms(both: &Both, score: &mut Score) {
 
 fn qp7_rooms(file: &[u8], (expected_places, expected_words): (Vec<u32>, Vec<u32>), score: &mut Score) {
     const CALL: &str = "demux_ds2_qp7";
-    let (records, rows) = (expected_places.len(), expected_words.len() / 3);
+    let (records, rows) = (expected_places.len(), expected_words.len() / QP7_WORDS);
     for room in [0, 1, 2].map(|more| (records + more).saturating_sub(1)) {
-        for words in (3 * rows).saturating_sub(4)..3 * rows + 4 {
+        for words in (QP7_WORDS * rows).saturating_sub(4)..QP7_WORDS * rows + 4 {
             let (numbers, places, table) = ask_qp7(file, (room, words));
             let seen = (numbers, places.untouched() && table.untouched());
             if room < records {
                 score.named(Name::PacketRoom, CALL, ([8, records as u64, 0, 0], true), seen);
-            } else if words / 3 < rows {
+            } else if words / QP7_WORDS < rows {
                 score.named(Name::TableRoom, CALL, ([9, rows as u64, 0, 0], true), seen);
             } else {
                 let seen = (numbers, places.holds(&expected_places), table.holds(&expected_words));

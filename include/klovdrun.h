@@ -47,6 +47,9 @@ extern "C" {
 #define KLOV_PACKET 42u
 #define KLOV_FRAME 56u
 #define KLOV_PAYLOAD 506u
+/* Words of a segment's entry in a table of QP, and in one of QP7. */
+#define KLOV_QP_WORDS 4u
+#define KLOV_QP7_WORDS 3u
 /* A reader's size and alignment. */
 #define KLOV_READER_SIZE 12928u
 #define KLOV_READER_ALIGN 8u
@@ -107,12 +110,13 @@ klov_answer klov_payload(const uint8_t *file, size_t file_len, size_t block);
 klov_answer klov_demux_dss(const uint8_t *file, size_t file_len, uint8_t *out, size_t out_len, uint8_t *counts, size_t counts_len);
 klov_answer klov_demux_ds2_sp(const uint8_t *file, size_t file_len, uint8_t *out, size_t out_len, uint8_t *counts, size_t counts_len);
 
-/* All segments of a QP file, four words each: start in the payload stream, length in bytes, frames, reset. first: segments; second:
- * frames announced. Room is table_len / 4. Refusals 1, 2, 3, 11, 9. */
+/* All segments of a QP file, KLOV_QP_WORDS words each: start in the payload stream, length in bytes, frames, reset. first: segments; second:
+ * frames announced. Room is table_len / KLOV_QP_WORDS. Refusals 1, 2, 3, 11, 9. */
 klov_answer klov_demux_ds2_qp(const uint8_t *file, size_t file_len, uint32_t *table, size_t table_len);
 
-/* All records of a QP7 file, a word each: place in the payload stream; and all segments, three words each: first record, records, reset.
- * first: records; second: segments. Rooms are records_len and segments_len / 3. Refusals 1, 2, 3, 11, 4 or 5, 8, 9. */
+/* All records of a QP7 file, a word each: place in the payload stream; and all segments, KLOV_QP7_WORDS words each: first record,
+ * records, reset. first: records; second: segments. Rooms are records_len and segments_len / KLOV_QP7_WORDS. Refusals 1, 2, 3, 11, 4 or 5, 8,
+ * 9. */
 klov_answer klov_demux_ds2_qp7(const uint8_t *file, size_t file_len, uint32_t *records, size_t records_len, uint32_t *segments, size_t segments_len);
 
 /* Frame k of a QP segment that has `length` bytes from `start` on. first: its place in the payload stream; second: its size. Both are 0

@@ -29,6 +29,7 @@ DS2 = (b"\x01ds2", b"\x03ds2", b"\x07ds2")
 DSS_TWO, DSS_THREE, DS2_ONE, DS2_THREE, DS2_SEVEN = DSS + DS2
 ENC, NONE = b"\x03enc", b"\0non"
 BLOCK, PAYLOAD, HOLD, LIST_LIMIT, AMPLE = 512, 506, 12288, 65536, 1 << 30
+QP_WORDS, QP7_WORDS = 4, 3  # of a segment's entry
 
 # ---- The description: the whole readings
 
@@ -346,14 +347,14 @@ def sp_answers(call, file, case):
     return [*refusal, len(found), lent(bytes_of(found), case.out, 64), lent(counts_of(found), case.counts, 64)]
 
 def qp_answers(file, case):
-    refusal, (blocks, segments) = attempt(read_qp, (None, []), file, case.table // 4)
+    refusal, (blocks, segments) = attempt(read_qp, (None, []), file, case.table // QP_WORDS)
     values = [v for start, length, frames, reset in segments
               for v in (frames, reset, *blocks.stream[start:start + length])]
     announced = 0 if refusal[0] else blocks.announced
     return [*refusal, len(segments), announced, lent(sum(segments, ()), case.table, 16), digest(values)]
 
 def qp7_answers(file, case):
-    refusal, (records, segments) = attempt(read_qp7, ([], []), file, case.records, case.segments // 3)
+    refusal, (records, segments) = attempt(read_qp7, ([], []), file, case.records, case.segments // QP7_WORDS)
     values = [v for first, count, reset in segments
               for v in (count, reset, *b"".join(r for _, r in records[first:first + count]))]
     return [*refusal, len(records), len(segments), lent([place for place, _ in records], case.records, 16),

@@ -369,11 +369,11 @@ static enum outcome whole_qp(struct intake *it, const struct bytes *file)
     /* With no room the call says how many segments there are. */
     make_room(&table, 1, sizeof(uint32_t));
     klov_answer a = klov_demux_ds2_qp(file->at, file->len, (uint32_t *)table.at, 0);
-    make_room(&table, a.beside, 4 * sizeof(uint32_t));
+    make_room(&table, a.beside, KLOV_QP_WORDS * sizeof(uint32_t));
     a = klov_demux_ds2_qp(file->at, file->len, (uint32_t *)table.at, table.room / sizeof(uint32_t));
     if (a.refusal == 0)
         for (uint64_t i = 0; i < a.first; i++)
-            put_frames(it, file, (uint32_t *)table.at + 4 * i);
+            put_frames(it, file, (uint32_t *)table.at + KLOV_QP_WORDS * i);
     it->owed = a.second - it->handed;
     drop(&table);
     return a.refusal == 0 ? DONE : refused(it, a.refusal, a.beside);
@@ -394,7 +394,7 @@ static enum outcome whole_qp7(struct intake *it, const struct bytes *file, const
     it->unit = "records";
     make_room(&records, t->handed, sizeof(uint32_t));
     /* A segment is closed by a silent block or by the end, so there are not more of them than blocks. */
-    make_room(&segments, t->blocks, 3 * sizeof(uint32_t));
+    make_room(&segments, t->blocks, KLOV_QP7_WORDS * sizeof(uint32_t));
     klov_answer a = klov_demux_ds2_qp7(file->at, file->len, (uint32_t *)records.at, records.room / sizeof(uint32_t),
                                        (uint32_t *)segments.at, segments.room / sizeof(uint32_t));
     if (a.refusal == 0)

@@ -39,3 +39,7 @@ pub const FRAME: usize = 56;
 pub const BLOCK: usize = 512;
 /// Bytes of a block's payload.
 pub const PAYLOAD: usize = 506;
+/// Words of a QP segment's entry in a table.
+pub const QP_WORDS: usize = 4;
+/// Words of a QP7 segment's entry in a table.
+pub const QP7_WORDS: usize = 3;

@@ -162,7 +162,7 @@ fn same_kind(one: Kind, other: Kind) -> bool
     }
 }
 
-// For the whole calls here and in the crates above. Whether a type is read as this kind.
+// For the crates above. Whether a type is read as this kind.
 pub fn is_read_as(byte: u8, kind: Kind) -> bool
     ensures { λ r. ⌜ r ≡ readAs byte kind ⌝ }
 {

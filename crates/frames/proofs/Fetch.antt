@@ -22,7 +22,8 @@ use Rattle.whole.specs.Admissions.{admission, streamIn}
 use Rattle.whole.proofs.Admissions.{sound}
 use Rattle.frames.specs.declared.Fetched.{Fetched}
 use Rattle.frames.specs.declared.Fetched.the-variants.{Refused}
-use Rattle.frames.specs.Fetch.{canFetch, fetchFrom, isInside, inFile, inScratch, standIn, standing, fetchedSays, filledFrom, filled, shownFrom, shown, Fills, Fetchable}
+use Rattle.frames.specs.Fetch.{canFetch, fetchFrom, isInside, inFile, inScratch, standIn, standing, fetchedSays, filledFrom, filled, shownFrom, shown, Fills}
+use Rattle.frames.specs.Inner.{Fetchable}
 use Rattle.tables.proofs.Cases.{by-order, by-test}
 
 -- whether a frame can be fetched, test by test

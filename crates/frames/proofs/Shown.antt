@@ -20,7 +20,8 @@ use Rattle.refusals.specs.Said.{answers, refusal}
 use Rattle.refusals.proofs.Said.{not-both}
 use Rattle.whole.specs.declared.Recording.{Recording}
 use Rattle.whole.specs.Admissions.{admission}
-use Rattle.frames.specs.Fetch.{canFetch, fetchFrom, isInside, standing, filledFrom, filled, shownFrom, shown, Fetchable}
+use Rattle.frames.specs.Fetch.{canFetch, fetchFrom, isInside, standing, filledFrom, filled, shownFrom, shown}
+use Rattle.frames.specs.Inner.{Fetchable}
 use Rattle.tables.proofs.Cases.{by-test}
 use Rattle.refusals.proofs.Said.{by-said}
 use Rattle.frames.proofs.Fetch.{room-decides, goes-on, fetch-asks, fetched-from, stand-is, filled-long}

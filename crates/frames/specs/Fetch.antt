@@ -1,13 +1,13 @@
 -- A frame on request, by two calls over a DS2 file of any type: the first fills the scratch where the frame crosses a block, the second
 -- shows a part of the file or of the scratch. Refusals 1, 2, 3 and 12, the same for both. Assumes nothing.
-use Prim.Native.Nat.{ℕ, _+_, _*_, _%_, _≤_, _<_}
+use Prim.Native.Nat.{ℕ, _+_, _*_, _%_}
 use mathlib.Core.Path.{_≡_}
 use mathlib.Core.List.{List, []}
 use mathlib.Core.Bool.{Bool, true, false, cond, _&&_}
 use lib.ListN.{length, take, drop}
 use lib.Dec.{leb}
 use Rattle.tables.specs.Lent.{over}
-use Rattle.blocks.specs.Places.{Whole, fileOf}
+use Rattle.blocks.specs.Places.{fileOf}
 use Rattle.refusals.specs.Said.{Said, answers, refusal, demand, onward}
 use Rattle.whole.specs.declared.Recording.{Recording}
 use Rattle.whole.specs.Admissions.{admission, streamIn}
@@ -72,12 +72,3 @@ shown f q size scratch = shownBy f (fetchFrom f q size (length scratch)) q size 
 pub record Fills (f : List ℕ) (q size : ℕ) (scratch scratch′ : List ℕ) (answer : Fetched) : Type 0 where
   pub answer-is : fetchedSays answer ≡ standing (fetchFrom f q size (length scratch)) q size
   pub scratch-is : scratch′ ≡ filled f q size scratch
-
--- what is asked before a frame is filled or shown: the recording lies in the file, the frame in its stream, and the scratch is large
--- enough
-pub record Fetchable (f : List ℕ) (rec : Recording) (q size room : ℕ) : Type 0 where
-  pub whole : Whole f (rec .start .0) (rec .blocks)
-  pub some : 0 < size
-  pub most : size ≤ 56
-  pub there : q + size ≤ 506 * rec .blocks
-  pub roomy : 56 ≤ room

@@ -3,3 +3,5 @@ pub mod Start
 pub mod Frames
 pub mod Fetch
 pub mod Cut
+-- what only contracts of inner functions speak of
+pub mod Inner

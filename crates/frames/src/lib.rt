@@ -1,5 +1,5 @@
 // Frames of the payload stream: where a block's frames start, the frames of a segment, and a frame's bytes on request.
-// Rests on detect, which says whether the file is taken, and on refusals, blocks and tables.
+// Rests on whole, which says whether the file is taken, and on refusals, blocks and tables.
 use blocks::FilePlace;
 use blocks::HEADER;
 use blocks::PAYLOAD;
@@ -19,7 +19,8 @@ ghost use Rattle.refusals.specs.Said.{answers, demand};
 ghost use Rattle.whole.specs.Admissions.{admissionSays, streamIn};
 ghost use Rattle.frames.specs.Start.{framesStart};
 ghost use Rattle.frames.specs.Frames.{frameOf};
-ghost use Rattle.frames.specs.Fetch.{canFetch, fetchFrom, isInside, standIn, standing, fetchedSays, filledFrom, shownFrom, shown, Fills, Fetchable};
+ghost use Rattle.frames.specs.Fetch.{canFetch, fetchFrom, isInside, standIn, standing, fetchedSays, filledFrom, shownFrom, shown, Fills};
+ghost use Rattle.frames.specs.Inner.{Fetchable};
 
 // The size of a QP frame. A scratch must have as many bytes.
 pub const FRAME: usize = 56;

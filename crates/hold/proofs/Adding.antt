@@ -17,10 +17,8 @@ use Rattle.blocks.proofs.Headers.{announced-more}
 use Rattle.blocks.proofs.Places.{stream-in, stream-past}
 use Rattle.hold.specs.declared.Standing.{Standing}
 use Rattle.hold.specs.Ready.{readingIn, ready}
-use Rattle.hold.specs.Held.{heldFrom, Holds, baseAt, waitingAt, firstByte, Dropped}
-use Rattle.hold.specs.Parts.{PartWritten}
-use Rattle.hold.specs.Between.{holdAt, brought, Next, Added}
-use Rattle.hold.specs.Owed.{Due}
+use Rattle.hold.specs.Held.{heldFrom, baseAt, waitingAt, firstByte, holdAt}
+use Rattle.hold.specs.Inner.{Holds, Dropped, PartWritten, brought, Next, Added, Due}
 use Rattle.hold.proofs.Ready.{total-is, ready-within, base-within}
 use Rattle.hold.proofs.Windows.{held-long, held-at}
 use Rattle.hold.proofs.Numbers.{Numbered, numbered}

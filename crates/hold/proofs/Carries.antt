@@ -8,8 +8,8 @@ use native.Mathlib.Omega.{arith}
 use Rattle.tables.proofs.Cases.{by-order}
 use Rattle.packets.specs.Walk.{Walk, step}
 use Rattle.sp.specs.declared.Run.{Run}
-use Rattle.sp.specs.Runs.{packetsIn, standsAt}
-use Rattle.sp.proofs.Runs.{packets-none, packets-of, packets-joined, carryPast, stands-before, stands-after, carry-at-first, carry-goes-on}
+use Rattle.sp.specs.Runs.{packetsIn, standsAt, carryPast}
+use Rattle.sp.proofs.Runs.{packets-none, packets-of, packets-joined, stands-before, stands-after, carry-at-first, carry-goes-on}
 
 module _ (s : ℕ → ℕ) (carry : ℕ) (runs : List Run) where
   -- past the last packet stands what all runs carry on, whatever runs come next

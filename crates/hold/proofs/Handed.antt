@@ -11,7 +11,7 @@ use Rattle.packets.specs.declared.Packet.{Packet}
 use Rattle.packets.specs.Packet.{readSize, IsPacket}
 use Rattle.packets.specs.Walk.{Walk}
 use Rattle.packets.proofs.Packets.{read-most}
-use Rattle.sp.specs.Written.{RunWritten}
+use Rattle.sp.specs.Inner.{RunWritten}
 use Rattle.sp.proofs.Written.{Running, run-begins, run-goes-on, run-ends}
 
 module _ (Over : (ℕ → ℕ) → Type 0) (begin long : ℕ) (w : Walk) (number : ℕ) (out counts : List ℕ) where

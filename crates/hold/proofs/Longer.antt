@@ -21,17 +21,15 @@ use Rattle.packets.specs.Packet.{readSize}
 use Rattle.packets.specs.Walk.{Walk, reach, step}
 use Rattle.packets.proofs.Longer.{same-carry, same-read}
 use Rattle.sp.specs.ReadLists.{dssRun}
-use Rattle.sp.specs.Readings.{Reading, total, walkAt, CompleteAt, joinedByteAt}
+use Rattle.sp.specs.Readings.{Reading, total, walkAt, CompleteAt, joinedByteAt, carryAt}
 use Rattle.sp.specs.Longer.{SameAt}
 use Rattle.sp.proofs.Runs.{reads-fixed, carry-at-first}
 use Rattle.sp.proofs.Longer.{Extends, stands-alike, same-upto, dss-extends, ds2-extends}
 use Rattle.hold.specs.Ready.{readingIn, endsAt, front, ready}
-use Rattle.hold.specs.Held.{baseAt, fitting, fits, headersFrom, waitingAt, firstByte}
-use Rattle.hold.specs.Parts.{carryAt, PartWritten}
-use Rattle.hold.specs.Between.{holdAt}
+use Rattle.hold.specs.Held.{baseAt, fitting, fits, headersFrom, waitingAt, firstByte, holdAt}
+use Rattle.hold.specs.Inner.{PartWritten}
 use Rattle.hold.proofs.Leading.{leads-further, leads-same, leading-same}
-use Rattle.hold.proofs.Ready.{total-is, front-leads, front-within, dss-ready, ds2-leads, ready-complete, ready-within, ready-none}
-use Rattle.hold.proofs.Ready.{reach-upto, dss-base, ds2-base}
+use Rattle.hold.proofs.Ready.{total-is, front-leads, front-within, dss-ready, ds2-leads, ready-complete, ready-within, ready-none, reach-upto, dss-base, ds2-base}
 use Rattle.hold.proofs.Carries.{carry-goes-past}
 
 -- one reading extends another: a packet is read at the same place and by the same parity in both

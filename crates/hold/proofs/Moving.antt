@@ -9,7 +9,7 @@ use Rattle.tables.specs.Lent.{Leaves}
 use Rattle.tables.proofs.Cases.{by-order}
 use Rattle.tables.proofs.Table.{is-table}
 use Rattle.tables.proofs.Lent.{leaves-next, leaves-at}
-use Rattle.hold.specs.Held.{Dropped}
+use Rattle.hold.specs.Inner.{Dropped}
 
 -- one byte more: it is read where nothing has changed yet
 pub move-one : (d : List ℕ) (by k : ℕ) (e : List ℕ) → k < length d → Leaves d 0 k (λ i. getD d (by + i) 0) e

@@ -10,8 +10,8 @@ use Rattle.blocks.specs.Headers.{headerByte, announcedIn}
 use Rattle.hold.specs.declared.Standing.{Standing}
 use Rattle.hold.specs.Ready.{readingIn, front, ready}
 use Rattle.hold.specs.Held.{baseAt}
-use Rattle.hold.specs.Parts.{carryAt}
-use Rattle.hold.specs.Between.{numbersAt}
+use Rattle.sp.specs.Readings.{carryAt}
+use Rattle.hold.specs.Inner.{numbersAt}
 use Rattle.hold.proofs.Ready.{dss-ready, dss-base}
 
 pub record Numbered (dss : Bool) (f : List ℕ) (a n b k : ℕ) (now : Standing) : Type 0 where

@@ -7,11 +7,12 @@ use mathlib.Core.Bool.{Bool}
 use native.Mathlib.Omega.{arith}
 use Rattle.tables.specs.Lent.{Leaves}
 use Rattle.tables.proofs.Lent.{leaves-none, leaves-join, leaves-as, leaves-to}
-use Rattle.packets.specs.Walk.{Walk, step, steps, byteOf, joinedAt, countAt, reach, parity}
+use Rattle.packets.specs.Walk.{Walk, step, steps, byteOf, countAt, reach, parity}
+use Rattle.packets.specs.Inner.{joinedAt}
 use Rattle.packets.proofs.Walk.{steps-none, steps-more, steps-place, steps-swap, joined-is}
-use Rattle.sp.specs.Readings.{Reading, total, walkAt, joinedByteAt, fileCountAt}
-use Rattle.sp.specs.Written.{RunWritten}
-use Rattle.hold.specs.Parts.{carryAt, PartWritten}
+use Rattle.sp.specs.Readings.{Reading, total, walkAt, joinedByteAt, fileCountAt, carryAt}
+use Rattle.sp.specs.Inner.{RunWritten}
+use Rattle.hold.specs.Inner.{PartWritten}
 use Rattle.hold.proofs.Carries.{carry-goes-past}
 
 -- steps add up

@@ -12,15 +12,13 @@ use Rattle.blocks.specs.Headers.{swapOf, firstOf, countOf, announcedIn}
 use Rattle.blocks.proofs.Headers.{announced-more, announced-upto}
 use Rattle.packets.specs.Walk.{steps}
 use Rattle.sp.specs.declared.Run.{Run}
-use Rattle.sp.specs.Runs.{runBegin}
+use Rattle.sp.specs.Runs.{runBegin, carryPast}
 use Rattle.sp.specs.ReadLists.{dssRun, dssRuns}
 use Rattle.sp.specs.Readings.{walkAt}
-use Rattle.sp.specs.Written.{RunWritten}
-use Rattle.sp.proofs.Runs.{carryPast}
+use Rattle.sp.specs.Inner.{RunWritten}
 use Rattle.sp.proofs.ReadLists.{dss-stands}
 use Rattle.hold.specs.Ready.{readingIn}
-use Rattle.hold.specs.Parts.{partOf, PartWritten}
-use Rattle.hold.specs.Owed.{Due}
+use Rattle.hold.specs.Inner.{partOf, PartWritten, Due}
 use Rattle.hold.proofs.Ready.{total-is}
 use Rattle.packets.proofs.Reaches.{reach-most}
 use Rattle.hold.proofs.Headers.{start-least}

@@ -7,13 +7,13 @@ use mathlib.Core.Bool.{Bool}
 use native.Mathlib.Omega.{arith}
 use lib.ListN.{getD}
 use Rattle.packets.specs.Packet.{readSize, from}
-use Rattle.packets.specs.Gathered.{bytesOf}
+use Rattle.packets.specs.Inner.{bytesOf}
 use Rattle.packets.specs.Walk.{Walk}
 use Rattle.packets.proofs.Longer.{Agree}
 use Rattle.sp.specs.declared.Run.{Run}
 use Rattle.sp.specs.Runs.{runBegin}
 use Rattle.hold.specs.Ready.{endsAt}
-use Rattle.hold.specs.Held.{Bears}
+use Rattle.hold.specs.Inner.{Bears}
 use Rattle.hold.proofs.Ready.{run-complete}
 use Rattle.hold.proofs.Handed.{Handing}
 

@@ -12,10 +12,11 @@ use Rattle.tables.proofs.Cases.{by-order}
 use Rattle.tables.proofs.Table.{length-table, table-at, is-table}
 use Rattle.tables.proofs.Lent.{leaves-at}
 use Rattle.packets.specs.Packet.{readSize, from}
-use Rattle.packets.specs.Gathered.{bytesOf}
+use Rattle.packets.specs.Inner.{bytesOf}
 use Rattle.packets.proofs.Longer.{Agree}
 use Rattle.packets.proofs.Gathered.{in-window}
-use Rattle.hold.specs.Held.{heldFrom, Holds}
+use Rattle.hold.specs.Held.{heldFrom}
+use Rattle.hold.specs.Inner.{Holds}
 
 pub held-long : (s : ℕ → ℕ) (base : ℕ) → length (heldFrom s base) ≡ 12288
 unfolding heldFrom

@@ -1,12 +1,11 @@
 -- What is held between blocks: 12,288 bytes of the payload stream from a base on, and the headers of the blocks that wait.
 -- Assumes nothing.
-use Prim.Native.Nat.{ℕ, _+_, _*_, _/_, _%_, _≤_, _<_}
-use mathlib.Core.Path.{_≡_}
+use Prim.Native.Nat.{ℕ, _+_, _*_, _/_, _%_}
 use mathlib.Core.List.{List}
 use mathlib.Core.Bool.{Bool, false, cond}
-use lib.ListN.{length, getD}
 use lib.Dec.{leb, ltb, eqb}
 use Rattle.tables.specs.Table.{table}
+use Rattle.blocks.specs.Places.{streamAt}
 use Rattle.blocks.specs.Headers.{swapOf, headerByte}
 use Rattle.packets.specs.Walk.{reach}
 use Rattle.hold.specs.Leading.{leading}
@@ -16,19 +15,13 @@ use Rattle.hold.specs.Ready.{front, ready}
 unfoldable pub heldFrom : (ℕ → ℕ) → ℕ → List ℕ
 heldFrom s base = table 12288 (λ i. s (base + i))
 
--- a hold has the bytes of s from a base on; s has `long` bytes, zeros past them, and none of them lies past the hold's end
-pub record Holds (s : ℕ → ℕ) (long base : ℕ) (hold : List ℕ) : Type 0 where
-  pub hold-is : hold ≡ heldFrom s base
-  pub past : (q : ℕ) → long ≤ q → s q ≡ 0
-  pub within : long ≤ base + 12288
-
--- a source has, from a place on, the payload that a stream s has from a base on
-abbrev pub Bears : List ℕ → ℕ → ℕ → (ℕ → ℕ) → Type 0
-Bears source at base s = (i : ℕ) → i < 506 → s (base + i) ≡ getD source (at + i) 0
-
 -- where the hold begins after n blocks: DS2, at the next read; DSS, with the payload of the first block that waits
 unfoldable pub baseAt : Bool → List ℕ → ℕ → ℕ → ℕ
 baseAt dss f a n = cond dss (506 * front f a n) (reach (swapOf f a 0) (ready false f a n))
+
+-- the bytes held after b blocks
+abbrev pub holdAt : Bool → List ℕ → ℕ → ℕ → List ℕ
+holdAt dss f a b = heldFrom (streamAt f a b) (baseAt dss f a b)
 
 -- block b can be added to what is held before it
 abbrev pub blockFits : Bool → List ℕ → ℕ → ℕ → Bool
@@ -52,8 +45,3 @@ waitingAt dss f a n = headersFrom f a n (cond dss (front f a n) n)
 -- byte 0 of the first block, and 0 before there is one: its bit 7 is DS2's first parity
 abbrev pub firstByte : List ℕ → ℕ → ℕ → ℕ
 firstByte f a n = cond (eqb n 0) 0 (headerByte f a 0 0)
-
--- the first `by` of the bytes that are held were dropped: if there are zeros past those held, every byte moves up by so many
-pub record Dropped (list : List ℕ) (by held : ℕ) (list′ : List ℕ) : Type 0 where
-  pub long : length list′ ≡ length list
-  pub is : ((i : ℕ) → held ≤ i → getD list i 0 ≡ 0) → list′ ≡ table (length list) (λ i. getD list (by + i) 0)

@@ -2,6 +2,5 @@
 pub mod Leading
 pub mod Ready
 pub mod Held
-pub mod Parts
-pub mod Between
-pub mod Owed
+-- what only contracts of inner functions speak of
+pub mod Inner

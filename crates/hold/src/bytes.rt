@@ -5,7 +5,7 @@ ghost use mathlib.Core.Path.{_≡_};
 ghost use Prim.Native.Nat.{_+_, _≤_};
 ghost use lib.ListN.{length, getD};
 ghost use Rattle.tables.specs.Lent.{Leaves};
-ghost use Rattle.hold.specs.Held.{Dropped};
+ghost use Rattle.hold.specs.Inner.{Dropped};
 
 // Puts the payload that lies in a source behind the bytes that are held.
 pub fn append(hold: &mut [u8; 12288], held: usize, source: &[u8], at: usize)

@@ -12,9 +12,9 @@ ghost use lib.ListN.{length, getD};
 ghost use Rattle.tables.specs.Table.{table};
 ghost use Rattle.packets.specs.Packet.{readSize, IsPacket};
 ghost use Rattle.sp.specs.Runs.{runBegin};
-ghost use Rattle.sp.specs.Written.{RunWritten};
+ghost use Rattle.sp.specs.Inner.{RunWritten};
 ghost use Rattle.hold.specs.Ready.{endsAt};
-ghost use Rattle.hold.specs.Held.{Holds, Bears};
+ghost use Rattle.hold.specs.Inner.{Holds, Bears};
 
 // Runs with no walk.
 pub mod places;

@@ -5,7 +5,7 @@ use sp::Run;
 ghost use mathlib.Core.Path.{_≡_};
 ghost use Prim.Native.Nat.{_≤_, _^_};
 ghost use Rattle.hold.specs.Ready.{endsAt};
-ghost use Rattle.hold.specs.Parts.{partOf};
+ghost use Rattle.hold.specs.Inner.{partOf};
 
 // m packets of a run from its packet k on.
 pub fn part_of(run: Run, k: usize, m: usize) -> Run

@@ -15,8 +15,7 @@ ghost use Rattle.blocks.specs.Headers.{announcedIn, flagOf, headerByte};
 ghost use Rattle.sp.specs.ReadLists.{dssRun};
 ghost use Rattle.hold.specs.Ready.{readingIn, readIn, front};
 ghost use Rattle.hold.specs.Held.{headersFrom};
-ghost use Rattle.hold.specs.Parts.{PartWritten};
-ghost use Rattle.hold.specs.Owed.{Queued};
+ghost use Rattle.hold.specs.Inner.{PartWritten, Queued};
 
 // Bit 7 of a header's byte 0.
 pub fn flag(byte: u8) -> bool

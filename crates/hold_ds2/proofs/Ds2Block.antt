@@ -12,10 +12,8 @@ use Rattle.blocks.specs.Headers.{flagOf, swapOf}
 use Rattle.packets.specs.Walk.{reach}
 use Rattle.hold.specs.declared.Standing.{Standing}
 use Rattle.hold.specs.Ready.{readingIn, ready}
-use Rattle.hold.specs.Held.{Holds, baseAt, waitingAt, Dropped}
-use Rattle.hold.specs.Parts.{PartWritten}
-use Rattle.hold.specs.Between.{brought, Next, Added}
-use Rattle.hold.specs.Owed.{Walking}
+use Rattle.hold.specs.Held.{baseAt, waitingAt}
+use Rattle.hold.specs.Inner.{Holds, Dropped, PartWritten, brought, Next, Added, Walking}
 use Rattle.hold.proofs.Headers.{none-wait}
 use Rattle.hold.proofs.Ready.{ds2-ready-is, ds2-base, base-within}
 use Rattle.hold.proofs.Longer.{base-grows-in}

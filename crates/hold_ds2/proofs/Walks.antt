@@ -13,13 +13,11 @@ use Rattle.sp.specs.declared.Run.{Run}
 use Rattle.sp.specs.Runs.{runBegin}
 use Rattle.sp.specs.ReadLists.{ds2Run}
 use Rattle.sp.specs.Readings.{walkAt}
-use Rattle.sp.specs.Written.{RunWritten}
+use Rattle.sp.specs.Inner.{RunWritten}
 use Rattle.sp.proofs.Runs.{stands-first}
 use Rattle.sp.proofs.ReadLists.{some-block}
 use Rattle.hold.specs.Ready.{readingIn}
-use Rattle.hold.specs.Held.{Holds}
-use Rattle.hold.specs.Parts.{partOf, PartWritten}
-use Rattle.hold.specs.Owed.{Walking}
+use Rattle.hold.specs.Inner.{Holds, partOf, PartWritten, Walking}
 use Rattle.hold.proofs.Ready.{total-is}
 use Rattle.packets.proofs.Reaches.{reach-most}
 use Rattle.blocks.proofs.Headers.{announced-most}

@@ -12,9 +12,7 @@ ghost use mathlib.Core.List.{List};
 ghost use Prim.Native.Nat.{ℕ};
 ghost use lib.ListN.{length};
 ghost use Rattle.hold.specs.Ready.{readingIn};
-ghost use Rattle.hold.specs.Parts.{PartWritten};
-ghost use Rattle.hold.specs.Between.{Next, Added};
-ghost use Rattle.hold.specs.Owed.{Walking};
+ghost use Rattle.hold.specs.Inner.{PartWritten, Next, Added, Walking};
 
 // Hands out m packets of a DS2 walk from packet k on, when n blocks are there; gives back what is carried on.
 pub fn write_walk(

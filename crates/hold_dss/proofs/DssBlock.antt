@@ -16,10 +16,8 @@ use Rattle.blocks.specs.Headers.{headerByte, announcedIn}
 use Rattle.sp.specs.ReadLists.{dssRun}
 use Rattle.hold.specs.declared.Standing.{Standing}
 use Rattle.hold.specs.Ready.{readingIn, endsAt, readIn, front, ready}
-use Rattle.hold.specs.Held.{Holds, baseAt, headersFrom, Dropped}
-use Rattle.hold.specs.Parts.{PartWritten}
-use Rattle.hold.specs.Between.{brought, Next, Added}
-use Rattle.hold.specs.Owed.{Queued}
+use Rattle.hold.specs.Held.{baseAt, headersFrom}
+use Rattle.hold.specs.Inner.{Holds, Dropped, PartWritten, brought, Next, Added, Queued}
 use Rattle.hold.proofs.Headers.{header-waits, dss-waits}
 use Rattle.hold.proofs.Ready.{front-leads, front-within, dss-ready, dss-base}
 use Rattle.hold.proofs.Front.{few-wait}

@@ -18,17 +18,15 @@ use Rattle.packets.specs.Walk.{Walk, steps}
 use Rattle.packets.proofs.Start.{start-most}
 use Rattle.packets.proofs.Walk.{steps-none}
 use Rattle.sp.specs.declared.Run.{Run}
-use Rattle.sp.specs.Runs.{runBegin}
+use Rattle.sp.specs.Runs.{runBegin, carryPast}
 use Rattle.sp.specs.ReadLists.{dssRun, dssRuns}
 use Rattle.sp.specs.Readings.{walkAt}
-use Rattle.sp.specs.Written.{RunWritten}
-use Rattle.sp.proofs.Runs.{carryPast}
+use Rattle.sp.specs.Inner.{RunWritten}
 use Rattle.sp.proofs.ReadLists.{dss-stands}
 use Rattle.hold.specs.declared.Standing.{Standing}
 use Rattle.hold.specs.Ready.{readingIn, endsAt, readIn, front, ready}
-use Rattle.hold.specs.Held.{Bears, heldFrom, baseAt, headersFrom, waitingAt}
-use Rattle.hold.specs.Parts.{PartWritten}
-use Rattle.hold.specs.Between.{holdAt, brought, Next, Added}
+use Rattle.hold.specs.Held.{heldFrom, baseAt, headersFrom, waitingAt, holdAt}
+use Rattle.hold.specs.Inner.{Bears, PartWritten, brought, Next, Added}
 use Rattle.hold.proofs.Leading.{never}
 use Rattle.hold.proofs.Ready.{front-within, dss-exactly, dss-ready, dss-base}
 use Rattle.hold.proofs.Headers.{dss-waits, none-wait, start-least}

@@ -14,7 +14,7 @@ ghost use lib.Dec.{eqb, leb};
 ghost use lib.ListN.{length};
 ghost use Rattle.sp.specs.ReadLists.{dssRun};
 ghost use Rattle.hold.specs.Ready.{endsAt};
-ghost use Rattle.hold.specs.Between.{Next, Added};
+ghost use Rattle.hold.specs.Inner.{Next, Added};
 
 // Adds block b of a DSS recording, whose bytes are there in a source: it waits behind those that wait, and all that can leave are handed out.
 fn queue_dss(

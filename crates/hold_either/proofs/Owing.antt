@@ -11,9 +11,8 @@ use Rattle.blocks.proofs.Places.{stream-past}
 use Rattle.packets.specs.Walk.{reach}
 use Rattle.hold.specs.declared.Standing.{Standing}
 use Rattle.hold.specs.Ready.{readingIn, front, ready}
-use Rattle.hold.specs.Held.{Holds, baseAt, headersFrom}
-use Rattle.hold.specs.Parts.{PartWritten}
-use Rattle.hold.specs.Owed.{Due, Walking, Queued, Owing}
+use Rattle.hold.specs.Held.{baseAt, headersFrom}
+use Rattle.hold.specs.Inner.{Holds, PartWritten, Due, Walking, Queued, Owing}
 use Rattle.hold.proofs.Headers.{dss-waits}
 use Rattle.hold.proofs.Ready.{total-is, front-within, reach-upto, ds2-base}
 use Rattle.hold.proofs.Front.{few-wait}

@@ -6,9 +6,7 @@ ghost use mathlib.Core.Path.{_≡_};
 ghost use Prim.Native.Nat.{_+_};
 ghost use lib.ListN.{length};
 ghost use Rattle.hold.specs.Ready.{readingIn, ready};
-ghost use Rattle.hold.specs.Parts.{PartWritten};
-ghost use Rattle.hold.specs.Between.{Next, Added};
-ghost use Rattle.hold.specs.Owed.{Owing};
+ghost use Rattle.hold.specs.Inner.{PartWritten, Next, Added, Owing};
 
 // Adds block b of a recording, whose bytes are there in a source, and hands out what becomes ready behind `number` others.
 pub fn add_block(

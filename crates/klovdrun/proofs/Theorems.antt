@@ -11,10 +11,10 @@ use Rattle.sp.specs.Readings.{Reading}
 use Rattle.sp.specs.Outcome.{roomIn, inRoom, answered as packets}
 use Rattle.sp.proofs.Theorems.{refused-changes-nothing}
 use Rattle.qp.specs.Segments.{qpReading}
-use Rattle.qp.specs.Outcome.{inTable, answered as segments}
+use Rattle.qp.specs.Outcome.{width as segmentWidth, inTable, answered as segments}
 use Rattle.qp.proofs.Theorems.{refused-changes-nothing as qp-refused}
 use Rattle.qp7.specs.Walk.{qp7Reading}
-use Rattle.qp7.specs.Outcome.{inTables, answered as records}
+use Rattle.qp7.specs.Outcome.{width as entryWidth, inTables, answered as records}
 use Rattle.qp7.proofs.Theorems.{refused-changes-nothing as qp7-refused}
 use Rattle.frames.specs.Fetch.{fetchFrom, standing}
 use Rattle.frames.proofs.Theorems.{refused-fill-changes-nothing}
@@ -83,7 +83,7 @@ module _ {reading : Said Reading} {out out′ counts counts′ : List ℕ} {r : 
 module _ (f : List ℕ) {table table′ : List ℕ} {r : Answer} (c : QpCarries (qpReading f) table table′ r) where
   pub qp-tells : Tells (segments (inTable (qpReading f) table)) r
   qp-tells =
-      tells _ _ 0 (segments (inTable (qpReading f) table)) (segments-numbered f (length table / 4)) (c .numbers-are ∙ ap qpNumbers (c .comes .answer-is))
+      tells _ _ 0 (segments (inTable (qpReading f) table)) (segments-numbered f (length table / segmentWidth)) (c .numbers-are ∙ ap qpNumbers (c .comes .answer-is))
 
   pub qp-refused-changes-nothing : 0 < r .refusal → table′ ≡ table
   qp-refused-changes-nothing some =
@@ -94,7 +94,7 @@ module _ (f : List ℕ) {table table′ : List ℕ} {r : Answer} (c : QpCarries 
 module _ (f : List ℕ) {table table′ entries entries′ : List ℕ} {r : Answer} (c : Qp7Carries (qp7Reading f) table table′ entries entries′ r) where
   pub qp7-tells : Tells (records (inTables (qp7Reading f) table entries)) r
   qp7-tells =
-      tells _ _ 0 (records (inTables (qp7Reading f) table entries)) (records-numbered f (length table) (length entries / 3))
+      tells _ _ 0 (records (inTables (qp7Reading f) table entries)) (records-numbered f (length table) (length entries / entryWidth))
       (c .numbers-are ∙ ap qp7Numbers (c .comes .answer-is))
 
   pub qp7-refused-changes-nothing : 0 < r .refusal → (table′ ≡ table) × (entries′ ≡ entries)

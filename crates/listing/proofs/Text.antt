@@ -16,7 +16,8 @@ use Rattle.tally.specs.declared.FileKind.{FileKind}
 use Rattle.tally.specs.declared.FileKind.the-variants.{DssSp, Ds2Sp, Ds2Qp, Ds2Qp7}
 use Rattle.tally.specs.declared.Figures.{Figures}
 use Rattle.tally.specs.Tallies.{tallied}
-use Rattle.listing.specs.Line.{nameOf, spaced, spacedAll, lineOf, listed, listLine, Put, Lists}
+use Rattle.listing.specs.Line.{nameOf, spaced, spacedAll, lineOf, listed, listLine, Lists}
+use Rattle.listing.specs.Inner.{Put}
 use Rattle.listing.proofs.Decimal.{decimal-is, decimal-few}
 
 -- text after text

@@ -1,3 +1,5 @@
 -- The definitions of this crate, a file for each idea. They rest on those of the crates below.
 pub mod Decimal
 pub mod Line
+-- what only contracts of inner functions speak of
+pub mod Inner

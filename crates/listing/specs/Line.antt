@@ -1,11 +1,10 @@
 -- The line that `list` prints for a file of at most 65,536 bytes, from its tally; in ASCII, the line's end included.
 -- Assumes nothing.
-use Prim.Native.Nat.{ℕ, _+_}
+use Prim.Native.Nat.{ℕ}
 use mathlib.Core.Path.{_≡_}
 use mathlib.Core.List.{List, [], _∷_, _++_}
-use lib.ListN.{length, getD}
+use lib.ListN.{length}
 use lib.Dec.{leb}
-use Rattle.tables.specs.Lent.{Leaves}
 use Rattle.tables.specs.Entries.{fronted}
 use Rattle.refusals.specs.declared.Refusal.{Refusal}
 use Rattle.refusals.specs.Said.{Said, answers, refusal, demand}
@@ -57,11 +56,6 @@ listed f = demand (leb (length f) most) 2 most (tallied f)
 
 unfoldable pub listLine : List ℕ → List ℕ
 listLine f = lineOf (listed f)
-
--- text is put into a line from a place on: every other byte is as it was, and the answer is where the text ends
-pub record Put (text : List ℕ) (at : ℕ) (line line′ : List ℕ) (end : ℕ) : Type 0 where
-  pub bytes : Leaves line at (length text) (λ k. getD text k 0) line′
-  pub end-is : end ≡ at + length text
 
 -- a whole line stands at the front of the buffer, what lies past it is as it was, and the answer is how long it is
 pub record Lists (text line line′ : List ℕ) (long : ℕ) : Type 0 where

@@ -8,7 +8,8 @@ ghost use mathlib.Core.Path.{_≡_};
 ghost use Prim.Native.Nat.{_+_, _≤_};
 ghost use lib.ListN.{length};
 ghost use Rattle.io.specs.Counts.{Counts};
-ghost use Rattle.listing.specs.Line.{nameOf, spaced, tallyLine, refusedLine, listLine, Put, Lists};
+ghost use Rattle.listing.specs.Line.{nameOf, spaced, tallyLine, refusedLine, listLine, Lists};
+ghost use Rattle.listing.specs.Inner.{Put};
 
 // The most bytes that `list` takes.
 const MOST: usize = 65536;

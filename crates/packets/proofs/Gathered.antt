@@ -20,7 +20,7 @@ use Rattle.packets.specs.declared.Packet.{Packet}
 use Rattle.packets.specs.Packet.{readSize, packetByte, carryAfter, from, fileCount, IsPacket}
 use Rattle.packets.proofs.Packets.{read-most}
 use Rattle.packets.proofs.Longer.{Agree, same-packet, same-carry}
-use Rattle.packets.specs.Gathered.{bytesOf, Shifted, Blended, Window}
+use Rattle.packets.specs.Inner.{bytesOf, Shifted, Blended, Window}
 
 -- the carried byte and 40 bytes that stand 3 on, taken 4 on at even places and as they stand at odd ones, are a swapped packet
 pub blend : (carry : ℕ) (c : ℕ → ℕ) (v x : List ℕ) → Shifted carry c v → length x ≡ 48

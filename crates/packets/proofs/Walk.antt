@@ -8,7 +8,8 @@ use native.Mathlib.Omega.{arith}
 use borrow.Author.Tests.{eq-eqb, ne-eqb}
 use Rattle.tables.proofs.Cases.{by-equal}
 use Rattle.packets.specs.Packet.{readSize}
-use Rattle.packets.specs.Walk.{Walk, step, steps, byteOf, joinedAt, reach, parity}
+use Rattle.packets.specs.Walk.{Walk, step, steps, byteOf, reach, parity}
+use Rattle.packets.specs.Inner.{joinedAt}
 
 pub steps-none : (s : ℕ → ℕ) (w : Walk) → steps s w 0 ≡ w
 unfolding steps

@@ -2,4 +2,5 @@
 pub mod Packet
 pub mod Start
 pub mod Walk
-pub mod Gathered
+-- what only contracts of inner functions speak of
+pub mod Inner

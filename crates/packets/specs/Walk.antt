@@ -1,6 +1,6 @@
 -- A walk over the payload stream, packet after packet: parity flips after each, and the carry goes on.
 -- Assumes nothing.
-use Prim.Native.Nat.{ℕ, zero, suc, _+_, _*_, _-_, _/_, _%_, _≤_}
+use Prim.Native.Nat.{ℕ, zero, suc, _+_, _*_, _-_, _%_, _≤_}
 use mathlib.Core.Bool.{Bool, not, cond}
 use lib.Dec.{eqb}
 use Rattle.packets.specs.Packet.{readSize, packetByte, carryAfter, from, fileCount}
@@ -35,10 +35,6 @@ countAt n w = fileCount n (w .swap) (w .place)
 -- that packet's read is complete in a stream of n bytes
 abbrev pub Complete : ℕ → Walk → Type 0
 Complete n w = w .place + readSize (w .swap) ≤ n
-
--- byte j of the packets from w on, joined
-unfoldable pub joinedAt : (ℕ → ℕ) → Walk → ℕ → ℕ
-joinedAt s w j = byteOf s (steps s w (j / 42)) (j % 42)
 
 -- how far k packets go: a pair takes 82 bytes, whichever comes first
 abbrev pub reach : Bool → ℕ → ℕ

@@ -13,7 +13,7 @@ ghost use Rattle.blocks.specs.Places.{Whole, streamAt};
 ghost use Rattle.packets.specs.Packet.{readSize, packetByte, carryAfter, from, fileCount, IsPacket};
 ghost use Rattle.packets.specs.Start.{dssStart};
 ghost use Rattle.packets.specs.Walk.{reach, parity};
-ghost use Rattle.packets.specs.Gathered.{bytesOf, Shifted, Blended, Window};
+ghost use Rattle.packets.specs.Inner.{bytesOf, Shifted, Blended, Window};
 
 // The size of a packet.
 pub const PACKET: usize = 42;

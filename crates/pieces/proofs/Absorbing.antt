@@ -12,13 +12,12 @@ use Rattle.tables.proofs.Table.{length-table, table-at, is-table}
 use Rattle.blocks.specs.Places.{wholeBlocks, blockAt}
 use Rattle.hold.specs.declared.Standing.{Standing}
 use Rattle.hold.specs.Ready.{readingIn, ready}
-use Rattle.hold.specs.Parts.{PartWritten}
-use Rattle.hold.specs.Between.{brought, Next, Added}
+use Rattle.hold.specs.Inner.{PartWritten, brought, Next, Added}
 use Rattle.hold.proofs.Front.{fits-each}
 use Rattle.hold.proofs.Longer.{ready-grows-in}
 use Rattle.hold.proofs.Partwise.{part-none, part-join}
 use Rattle.pieces.specs.Joined.{bytesFrom}
-use Rattle.pieces.specs.Joined.{Joins, Able, Coming, Adding, Absorbed}
+use Rattle.pieces.specs.Inner.{Joins, Able, Coming, Adding, Absorbed}
 
 -- of the 512 bytes from a place on, `kept` are among those taken, and n more among the piece's, from its place `at` on, up to `end`
 record Laid (taken place long kept end at n : ℕ) : Type 0 where

@@ -14,7 +14,7 @@ use Rattle.refusals.specs.Said.{Said, answers, refusal, refuses, demand}
 use Rattle.hold.specs.declared.Standing.{Standing}
 use Rattle.hold.specs.Ready.{ready}
 use Rattle.hold.specs.Held.{fits}
-use Rattle.pieces.specs.Joined.{Known, gained, judged, accepts}
+use Rattle.pieces.specs.Inner.{Known, gained, judged, accepts}
 use Rattle.pieces.proofs.Sources.{numbers-of}
 
 pub fair : {said is : Said ℕ} {accepted : Bool} → said ≡ is → accepted ≡ accepts is → accepted ≡ accepts said

@@ -21,7 +21,7 @@ use Rattle.hold.proofs.Ready.{front-leads, front-within, dss-ready}
 use Rattle.hold.proofs.Front.{few-wait}
 use Rattle.blocks.proofs.Headers.{announced-most}
 use Rattle.hold.proofs.Numbers.{front-is, out-before}
-use Rattle.pieces.specs.Joined.{Joins, Known}
+use Rattle.pieces.specs.Inner.{Joins, Known}
 use Rattle.pieces.proofs.Sources.{numbers-of}
 
 -- what is known of the bytes joined where the blocks that wait begin, with block j; the packets before it are ready

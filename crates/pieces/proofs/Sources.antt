@@ -11,7 +11,7 @@ use Rattle.blocks.specs.Headers.{headerByte}
 use Rattle.hold.specs.declared.Standing.{Standing}
 use Rattle.hold.specs.Ready.{ready}
 use Rattle.hold.proofs.Numbers.{Numbered, numbered}
-use Rattle.pieces.specs.Joined.{Joins, Known}
+use Rattle.pieces.specs.Inner.{Joins, Known}
 
 module _ {f partial piece : List ℕ} {taken tail : ℕ} (joins : Joins f partial piece taken tail) where
   pub joined-old : (p : ℕ) → tail ≤ p → p < taken → getD partial (p - tail) 0 ≡ getD f p 0

@@ -18,7 +18,7 @@ use Rattle.hold.proofs.Leading.{never}
 use Rattle.hold.proofs.Ready.{ds2-ready-is, ready-none, ds2-base, base-within}
 use Rattle.hold.proofs.Front.{fits-each, each-fits}
 use Rattle.blocks.proofs.Headers.{announced-most}
-use Rattle.pieces.specs.Joined.{Joins, Known}
+use Rattle.pieces.specs.Inner.{Joins, Known}
 use Rattle.pieces.proofs.Sources.{numbers-of}
 
 reach-none : (swap : Bool) → reach swap 0 ≡ 0

@@ -9,8 +9,9 @@ ghost use mathlib.Core.Bool.{true, false};
 ghost use Prim.Native.Nat.{ℕ, _+_, _*_, _-_, _≤_, _<_};
 ghost use lib.ListN.{length};
 ghost use Rattle.blocks.specs.Places.{limit, wholeBlocks};
-ghost use Rattle.hold.specs.Between.{Added};
-ghost use Rattle.pieces.specs.Joined.{bytesFrom, Joins, Able, Coming, Absorbed};
+ghost use Rattle.hold.specs.Inner.{Added};
+ghost use Rattle.pieces.specs.Joined.{bytesFrom};
+ghost use Rattle.pieces.specs.Inner.{Joins, Able, Coming, Absorbed};
 
 // Makes of `partial` the 512 bytes from `place` on: those that it has, those of the piece, then zeros.
 fn renew(partial: &mut [u8; 512], piece: &[u8], taken: usize, place: usize)

@@ -23,7 +23,7 @@ ghost use Rattle.sp.specs.ReadLists.{dssRun};
 ghost use Rattle.sp.specs.Outcome.{demuxedSays};
 ghost use Rattle.hold.specs.Ready.{ready};
 ghost use Rattle.hold.specs.Held.{blockFits, fits, headersFrom};
-ghost use Rattle.pieces.specs.Joined.{Joins, Known, judged, accepts};
+ghost use Rattle.pieces.specs.Inner.{Joins, Known, judged, accepts};
 
 // The byte at place p of the bytes joined; `tail` is where the block begins that was not whole before.
 fn joined_byte(partial: &[u8; 512], piece: &[u8], taken: usize, tail: usize, p: usize) -> u8

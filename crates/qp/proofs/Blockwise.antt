@@ -13,8 +13,8 @@ use Rattle.blocks.specs.Headers.{firstOf, countOf}
 use Rattle.frames.specs.Start.{framesStart}
 use Rattle.qp.specs.declared.Gathering.{Gathering}
 use Rattle.qp.specs.Segments.{Gathered, nothing, closed, moved, arrived, counted, gatheredTo}
-use Rattle.qp.specs.Outcome.{entryOf}
-use Rattle.qp.specs.Written.{numbersOf, Near, Holds, Closes, Moves}
+use Rattle.qp.specs.Outcome.{width, entryOf}
+use Rattle.qp.specs.Inner.{numbersOf, Near, Holds, Closes, Moves}
 use Rattle.qp.proofs.Gathers.{near-within}
 
 -- before the first block nothing is gathered, so that block 0 arrives like any other
@@ -53,7 +53,7 @@ module _ (f : List ℕ) (a n most : ℕ) (table₀ : List ℕ) where
         below = omega arith;
         is = ap numbersOf (sym (gathered-none f a n));
         near = record { start-in = omega arith; place-is = omega arith; frames-few = omega arith; kept-few = omega arith };
-        holds = subst (λ (g : Gathered). Holds most (g .kept) table₀ table₀) (sym (gathered-none f a n)) (fronts-begin entryOf table₀ (4 * most));
+        holds = subst (λ (g : Gathered). Holds most (g .kept) table₀ table₀) (sym (gathered-none f a n)) (fronts-begin entryOf table₀ (width * most));
       }
 
   pub blocks-go-on : (b q count : ℕ) (gathering next : Gathering) (table table′ : List ℕ) (came : Gathering) → b < n

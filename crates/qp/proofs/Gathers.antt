@@ -6,14 +6,14 @@ use mathlib.Core.List.{List, [], _∷_, _++_}
 use native.Mathlib.Omega.{arith}
 use borrow.Author.Tests.{lt-ltb, le-ltb, eq-eqb, ne-eqb}
 use lib.ListN.{length, length-append}
-use Rattle.tables.specs.Entries.{Fronts, Puts}
+use Rattle.tables.specs.Inner.{Fronts, Puts}
 use Rattle.tables.proofs.Entries.{in-turn-long, in-turn-more, fronts-more}
 use Rattle.blocks.specs.declared.StreamPlace.{StreamPlace}
 use Rattle.qp.specs.declared.Segment.{Segment}
 use Rattle.qp.specs.declared.Gathering.{Gathering}
 use Rattle.qp.specs.Segments.{Gathered, openSegment, closed, begun, moved, counted}
-use Rattle.qp.specs.Outcome.{entryOf, words}
-use Rattle.qp.specs.Written.{numbersOf, Near, Holds, Closes, Moves}
+use Rattle.qp.specs.Outcome.{width, entryOf, words}
+use Rattle.qp.specs.Inner.{numbersOf, Near, Holds, Closes, Moves}
 
 -- a segment with no frames is not kept, and one with frames is
 pub closed-none : (long : ℕ) (g : Gathered) → g .frames ≤ 0 → closed long g ≡ g .kept
@@ -57,8 +57,8 @@ closes-some long most g gathering stop reset table table′ is =
           kept-is = sym (ap length same ∙ length-append (g .kept) (openSegment long g ∷ []));
           written = λ d h.
               subst (λ (l : List Segment). Holds most l d table′) (sym same)
-              (subst (λ (l : List ℕ). Fronts d (4 * most) l table′) (sym (in-turn-more entryOf (g .kept) (openSegment long g)))
-              (fronts-more 4 (length (g .kept)) most (words (g .kept)) (entryOf (openSegment long g)) (in-turn-long entryOf 4 (λ x. refl) (g .kept)) refl h entry));
+              (subst (λ (l : List ℕ). Fronts d (width * most) l table′) (sym (in-turn-more entryOf (g .kept) (openSegment long g)))
+              (fronts-more width (length (g .kept)) most (words (g .kept)) (entryOf (openSegment long g)) (in-turn-long entryOf width (λ x. refl) (g .kept)) refl h entry));
         }
 
 -- a block that starts at the read place changes nothing, and another closes the open segment

@@ -23,12 +23,12 @@ use Rattle.qp.specs.declared.Totals.{Totals}
 use Rattle.qp.specs.declared.Demuxed.{Demuxed}
 use Rattle.qp.specs.declared.Demuxed.the-variants.{Segments, Refused}
 use Rattle.qp.specs.Segments.{Reading, readingOf, segmentsFrom, qpReading}
-use Rattle.qp.specs.Outcome.{entryOf, words, inRoom, inTable, totalsOf, demuxedSays, Demuxes}
-use Rattle.qp.specs.Written.{Holds}
+use Rattle.qp.specs.Outcome.{width, entryOf, words, inRoom, inTable, totalsOf, demuxedSays, Demuxes}
+use Rattle.qp.specs.Inner.{Holds}
 
 -- the entries that are written at once, which are all that can be or none, and the rest
 module _ (f : List ℕ) (rec : Recording) (room written needed : ℕ) (is : needed ≡ length (segmentsFrom f rec)) (table between : List ℕ)
-    (roomy : room ≡ length table / 4) (at-once : written ≡ cond (ltb (rec .blocks) room) room 0) (few : needed ≤ rec .blocks + 1)
+    (roomy : room ≡ length table / width) (at-once : written ≡ cond (ltb (rec .blocks) room) room 0) (few : needed ≤ rec .blocks + 1)
     (first : Holds written (segmentsFrom f rec) table between) where
   -- where not all were written at once, none was
   none-yet : (room < needed) ⊎ (written < needed) → written ≡ 0
@@ -38,12 +38,12 @@ module _ (f : List ℕ) (rec : Recording) (room written needed : ℕ) (is : need
       (λ h. at-once ∙ simp (le-ltb (rec .blocks) room h))
 
   unwritten : written ≡ 0 → between ≡ table
-  unwritten none = fronts-nothing (4 * written) (words (segmentsFrom f rec)) (omega (arith, none)) first
+  unwritten none = fronts-nothing (width * written) (words (segmentsFrom f rec)) (omega (arith, none)) first
 
   pub no-room : room < needed → Demuxes (answers (readingOf f rec)) table between (Refused (numbered 9 needed))
   unfolding inRoom
   no-room full =
-      let over : leb (length (segmentsFrom f rec)) (length table / 4) ≡ false = lt-leb (length (segmentsFrom f rec)) (length table / 4) (omega (arith, full, is, roomy)) in
+      let over : leb (length (segmentsFrom f rec)) (length table / width) ≡ false = lt-leb (length (segmentsFrom f rec)) (length table / width) (omega (arith, full, is, roomy)) in
       record { answer-is = simp (over, is); table-is = simp over (unwritten (none-yet (inl full))) }
 
   pub with-room : (announced : ℕ) (table′ : List ℕ) → announced ≡ announcedBy f rec → needed ≤ room → (needed ≤ written → table′ ≡ between)
@@ -51,19 +51,19 @@ module _ (f : List ℕ) (rec : Recording) (room written needed : ℕ) (is : need
       → Demuxes (answers (readingOf f rec)) table table′ (Segments (record { segments = needed; announced = announced }))
   unfolding inRoom
   with-room announced table′ sum fits kept rest =
-      let can : leb (length (segmentsFrom f rec)) (length table / 4) ≡ true = le-leb (length (segmentsFrom f rec)) (length table / 4) (omega (arith, fits, is, roomy)) in
+      let can : leb (length (segmentsFrom f rec)) (length table / width) ≡ true = le-leb (length (segmentsFrom f rec)) (length table / width) (omega (arith, fits, is, roomy)) in
       record { answer-is = simp (can, is, sum); table-is = simp can all }
     where
-      many : length (words (segmentsFrom f rec)) ≡ 4 * needed
-      many = in-turn-long entryOf 4 (λ x. refl) (segmentsFrom f rec) ∙ omega (arith, is)
+      many : length (words (segmentsFrom f rec)) ≡ width * needed
+      many = in-turn-long entryOf width (λ x. refl) (segmentsFrom f rec) ∙ omega (arith, is)
 
       all : table′ ≡ fronted (words (segmentsFrom f rec)) table
       all =
           by-order written needed
           (λ h.
-          fronts-all (4 * needed) (words (segmentsFrom f rec)) (omega (arith, many)) (rest h)
+          fronts-all (width * needed) (words (segmentsFrom f rec)) (omega (arith, many)) (rest h)
           ∙ ap (fronted (words (segmentsFrom f rec))) (unwritten (none-yet (inr h))))
-          (λ h. kept h ∙ fronts-all (4 * written) (words (segmentsFrom f rec)) (omega (arith, many)) first)
+          (λ h. kept h ∙ fronts-all (width * written) (words (segmentsFrom f rec)) (omega (arith, many)) first)
 
 -- what was admitted: a refusal is passed on, and a recording goes on to be read
 module _ (f : List ℕ) (table : List ℕ) where
@@ -95,11 +95,11 @@ only-outcome {reading} {table} {one′} {other′} {one} {other} d e =
 -- what an accepted call has read
 pub accepted-read : (reading : Said Reading) (table table′ : List ℕ) (answer : Demuxed) → Demuxes reading table table′ answer
     → (totals : Totals) → demuxedSays answer ≡ answers totals
-    → (r : Reading) × (reading ≡ answers r) × (totalsOf r ≡ totals) × (length (r .segments) ≤ length table / 4)
+    → (r : Reading) × (reading ≡ answers r) × (totalsOf r ≡ totals) × (length (r .segments) ≤ length table / width)
     × (inTable reading table ≡ answers r)
 unfolding inRoom
 accepted-read reading table table′ answer d totals e =
     let w = went-on (inTable reading table) (λ r. answers (totalsOf r)) (sym (d .answer-is) ∙ e) in
-    let v = asked-of reading (λ r. leb (length (r .segments)) (length table / 4)) 9 (λ r. length (r .segments)) (w .0) (w .1) in
+    let v = asked-of reading (λ r. leb (length (r .segments)) (length table / width)) 9 (λ r. length (r .segments)) (w .0) (w .1) in
     let many : totalsOf (w .0) ≡ totals = cc in
-    (w .0, v .0, many, leb-true (length (w .0 .segments)) (length table / 4) (v .1), w .1)
+    (w .0, v .0, many, leb-true (length (w .0 .segments)) (length table / width) (v .1), w .1)

@@ -34,7 +34,7 @@ use Rattle.qp.specs.declared.Segment.{Segment}
 use Rattle.qp.specs.declared.Totals.{Totals}
 use Rattle.qp.specs.declared.Demuxed.{Demuxed}
 use Rattle.qp.specs.Segments.{Reading, readingOf, segmentsFrom, qpReading, Lies}
-use Rattle.qp.specs.Outcome.{entryOf, words, inRoom, inTable, totalsOf, answered, tableAfter, demuxedSays, Demuxes}
+use Rattle.qp.specs.Outcome.{width, entryOf, words, inRoom, inTable, totalsOf, answered, tableAfter, demuxedSays, Demuxes}
 use Rattle.qp.specs.Handed.{bytesOf, framesOf, fetchedOf, announcedOf, handedOutOf, shortOf, missingFrom, bytesIn}
 use Rattle.qp.proofs.Kept.{totals-add-up, handed-or-missing, all-lie, all-reset}
 use Rattle.qp.proofs.Outcome.{accepted-read, Seen, only-outcome}
@@ -53,18 +53,18 @@ module _ (reading : Said Reading) (table table′ : List ℕ) (answer : Demuxed)
   -- An accepted call answers how many segments the reading has and how many frames are announced, and leaves the segments' words from the
   -- front of the table on.
   pub accepted-writes : (totals : Totals) → demuxedSays answer ≡ answers totals
-      → (r : Reading) × (reading ≡ answers r) × (totalsOf r ≡ totals) × (4 * length (r .segments) ≤ length table) × (table′ ≡ fronted (words (r .segments)) table)
+      → (r : Reading) × (reading ≡ answers r) × (totalsOf r ≡ totals) × (width * length (r .segments) ≤ length table) × (table′ ≡ fronted (words (r .segments)) table)
   accepted-writes totals e =
       let w = accepted-read reading table table′ answer d totals e in
       (w .0, w .1, w .2, omega (arith, w .3), d .table-is ∙ ap (λ (said : Said Reading). tableAfter said table) (w .4))
 
 -- Where they stand: segment i has the four words from 4 i on, its start, its length, its frame total and its reset; every other word, and
 -- the length, is as it was.
-pub segments-stand : (segments : List Segment) (table : List ℕ) (none : Segment) → 4 * length segments ≤ length table
-    → ((i k : ℕ) → i < length segments → k < 4 → getD (fronted (words segments) table) (4 * i + k) 0 ≡ getD (entryOf (getD segments i none)) k 0)
-    × ((j : ℕ) → 4 * length segments ≤ j → getD (fronted (words segments) table) j 0 ≡ getD table j 0)
+pub segments-stand : (segments : List Segment) (table : List ℕ) (none : Segment) → width * length segments ≤ length table
+    → ((i k : ℕ) → i < length segments → k < width → getD (fronted (words segments) table) (width * i + k) 0 ≡ getD (entryOf (getD segments i none)) k 0)
+    × ((j : ℕ) → width * length segments ≤ j → getD (fronted (words segments) table) j 0 ≡ getD table j 0)
     × (length (fronted (words segments) table) ≡ length table)
-segments-stand segments table none room = entries-stand entryOf 4 (λ s. refl) segments none table room
+segments-stand segments table none room = entries-stand entryOf width (λ s. refl) segments none table room
 
 -- What is taken is handed out exactly if the table has room for all its segments, and is otherwise refused by 9 with the segments needed.
 pub room-decides : (r : Reading) (room : ℕ) → (length (r .segments) ≤ room → answered (inRoom (answers r) room) ≡ answers (totalsOf r))
@@ -135,9 +135,9 @@ module _ (f : List ℕ) (r : Reading) (read : qpReading f ≡ answers r) where
         )
 
     -- That list has as many frames as are handed out by definition, and with those that are missing they are all that is announced.
-    pub none-uncounted : (rec : Recording) × (ds2Admission f Qp ≡ answers rec) × (length (framesOf f rec (r .segments)) ≡ handedOutOf (r .segments))
+    pub no-frame-uncounted : (rec : Recording) × (ds2Admission f Qp ≡ answers rec) × (length (framesOf f rec (r .segments)) ≡ handedOutOf (r .segments))
         × (handedOutOf (r .segments) + missingFrom (r .segments) ≡ announcedBy f rec)
-    none-uncounted =
+    no-frame-uncounted =
         let w = lies in
         let rec = w .0 in
         let whole = ds2-admitted f Qp rec (w .1) .2 .whole in

@@ -2,4 +2,5 @@
 pub mod Segments
 pub mod Handed
 pub mod Outcome
-pub mod Written
+-- what only contracts of inner functions speak of
+pub mod Inner

@@ -1,6 +1,6 @@
 // The whole reading of QP files: the segments of a DS2 file of type 6 or 8 to 255, into a lent table. Where the table
 // may be too small the blocks are walked twice, first to count and then to write, so that a refused call has written nothing.
-// Rests on detect, which says whether the file is taken, on frames, for where a block starts, on refusals, blocks and tables.
+// Rests on whole, which says whether the file is taken, on frames, for where a block starts, on refusals, blocks and tables.
 use blocks::PAYLOAD;
 use blocks::StreamPlace;
 use detect::Kind;
@@ -13,16 +13,16 @@ ghost use Prim.Native.Nat.{ℕ, _+_, _*_, _<_, _≤_, _^_};
 ghost use mathlib.Core.Bool.{cond};
 ghost use lib.ListN.{length};
 ghost use lib.Dec.{ltb};
-ghost use Rattle.tables.specs.Entries.{Puts};
+ghost use Rattle.tables.specs.Inner.{Puts};
 ghost use Rattle.blocks.specs.Headers.{Bytes};
 ghost use Rattle.refusals.specs.Said.{answers};
 ghost use Rattle.whole.specs.Admissions.{Sound};
 ghost use Rattle.qp.specs.Segments.{Gathered, counted, segmentsFrom, readingOf, qpReading};
 ghost use Rattle.qp.specs.Outcome.{width, entryOf, Demuxes};
-ghost use Rattle.qp.specs.Written.{numbersOf, Near, Holds, Closes, Moves};
+ghost use Rattle.qp.specs.Inner.{numbersOf, Near, Holds, Closes, Moves};
 
 // The words of a segment's entry.
-const ENTRY: usize = 4;
+pub const ENTRY: usize = 4;
 
 // A segment: where it starts, how many bytes it has, how many frames are announced, and 1 if the decoder is to be reset before it. Public
 // for the definitions above.

@@ -5,7 +5,8 @@ use mathlib.Core.Path.{_≡_, refl, sym, ap, _∙_, subst}
 use mathlib.Core.List.{List}
 use native.Mathlib.Omega.{arith}
 use borrow.Author.Tests.{eq-eqb, ne-eqb}
-use Rattle.tables.specs.Entries.{Fronts, inTurn}
+use Rattle.tables.specs.Entries.{inTurn}
+use Rattle.tables.specs.Inner.{Fronts}
 use Rattle.blocks.specs.Places.{streamAt}
 use Rattle.blocks.specs.Headers.{firstOf, countOf}
 use Rattle.refusals.specs.Said.{answers}
@@ -17,8 +18,8 @@ use Rattle.qp7.specs.declared.Walk.{Walk}
 use Rattle.qp7.specs.declared.Walked.{Walked}
 use Rattle.qp7.specs.declared.Walked.the-variants.{At}
 use Rattle.qp7.specs.Walk.{Gathered, raised, closing, reads, withBlock}
-use Rattle.qp7.specs.Outcome.{entryOf}
-use Rattle.qp7.specs.Written.{numbersOf, numbersAt, Near, RecordsHold, SegmentsHold, ReadsOn, Closes, GoesOn}
+use Rattle.qp7.specs.Outcome.{width, entryOf}
+use Rattle.qp7.specs.Inner.{numbersOf, numbersAt, Near, RecordsHold, SegmentsHold, ReadsOn, Closes, GoesOn}
 use Rattle.qp7.proofs.Standing.{stands-by}
 use Rattle.qp7.proofs.Closing.{closing-records, closes-unwritten}
 use Rattle.qp7.proofs.Reading.{same-segments}
@@ -76,7 +77,7 @@ module _ (f : List ℕ) (a n b : ℕ) (g : Gathered) where
         answer-is = on .answer-is ∙ sym (ap numbersAt to);
         records-written = λ d g′ e w. on .written d g′ (sym to ∙ e) w;
         segments-written = λ d g′ e w.
-            subst (λ (x : List Segment). Fronts d (3 * most .segments) (inTurn entryOf x) segments)
+            subst (λ (x : List Segment). Fronts d (width * most .segments) (inTurn entryOf x) segments)
             (sym (same-segments (streamAt f a n) (506 * n) count (raised q g) g′ (sym to ∙ e))) w;
         untouched = λ p z. (on .untouched p, refl);
       }

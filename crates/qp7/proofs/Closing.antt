@@ -6,14 +6,15 @@ use mathlib.Core.List.{List, [], _∷_, _++_}
 use native.Mathlib.Omega.{arith}
 use borrow.Author.Tests.{lt-ltb, le-ltb}
 use lib.ListN.{length, getD, length-append}
-use Rattle.tables.specs.Entries.{inTurn, Fronts, Puts}
+use Rattle.tables.specs.Entries.{inTurn}
+use Rattle.tables.specs.Inner.{Fronts, Puts}
 use Rattle.tables.proofs.Cases.{by-order}
 use Rattle.tables.proofs.Entries.{in-turn-long, in-turn-more, fronts-more, fronts-nothing}
 use Rattle.tables.proofs.Lent.{leaves-none, leaves-to}
 use Rattle.qp7.specs.declared.Walk.{Walk}
 use Rattle.qp7.specs.Walk.{Gathered, openSegment, closing}
-use Rattle.qp7.specs.Outcome.{entryOf}
-use Rattle.qp7.specs.Written.{numbersOf, SegmentsHold, Closes}
+use Rattle.qp7.specs.Outcome.{width, entryOf}
+use Rattle.qp7.specs.Inner.{numbersOf, SegmentsHold, Closes}
 
 -- what was gathered, with its open segment closed
 abbrev pub closedAt : Gathered → Gathered
@@ -88,9 +89,9 @@ closes-one-at most g segments segments′ reset h is p =
     written : (d : List ℕ) → SegmentsHold most g d segments → SegmentsHold most (closing g) d segments′
     written d w =
         subst (λ (x : Gathered). SegmentsHold most x d segments′) (sym closed)
-        (subst (λ (words : List ℕ). Fronts d (3 * most) words segments′) (sym (in-turn-more entryOf (g .closed) (openSegment g)))
-        (fronts-more 3 (length (g .closed)) most (inTurn entryOf (g .closed)) (entryOf (openSegment g))
-        (in-turn-long entryOf 3 (λ x. refl) (g .closed)) refl w entry))
+        (subst (λ (words : List ℕ). Fronts d (width * most) words segments′) (sym (in-turn-more entryOf (g .closed) (openSegment g)))
+        (fronts-more width (length (g .closed)) most (inTurn entryOf (g .closed)) (entryOf (openSegment g))
+        (in-turn-long entryOf width (λ x. refl) (g .closed)) refl w entry))
 
 -- the same of any walk that stands there
 pub closes-one : (most : ℕ) (walk : Walk) (segments segments′ : List ℕ) (reset : ℕ) → walk .first < walk .records
@@ -107,5 +108,5 @@ closes-one most walk segments segments′ reset h is p g e =
 pub closes-unwritten : {most : ℕ} {g : Gathered} {segments segments′ : List ℕ} {r : Walk} → Closes most g segments segments′ r → most ≡ 0
     → segments′ ≡ segments
 closes-unwritten {most} {g} {segments} c none =
-    fronts-nothing (3 * most) (inTurn entryOf (closing g .closed)) (omega (arith, none))
+    fronts-nothing (width * most) (inTurn entryOf (closing g .closed)) (omega (arith, none))
     (c .written segments (leaves-to (omega (arith, none)) (leaves-none segments 0 (λ k. getD (inTurn entryOf (g .closed)) k 0))))

@@ -5,7 +5,7 @@ use mathlib.Core.Path.{_≡_, refl, sym, ap, _∙_, subst}
 use mathlib.Core.List.{List}
 use native.Mathlib.Numerals.{add-one}
 use native.Mathlib.Omega.{arith}
-use Rattle.tables.specs.Entries.{Fronts}
+use Rattle.tables.specs.Inner.{Fronts}
 use Rattle.tables.proofs.Cases.{by-order}
 use Rattle.refusals.specs.declared.Refusal.{Refusal}
 use Rattle.refusals.specs.Said.{Said, answers, refusal, onward}
@@ -16,7 +16,7 @@ use Rattle.qp7.specs.declared.Walk.{Walk}
 use Rattle.qp7.specs.declared.Walked.{Walked}
 use Rattle.qp7.specs.declared.Walked.the-variants.{At, Refused}
 use Rattle.qp7.specs.Walk.{Gathered, nothing, closing, withBlock, gatheredTo, gatheredFrom}
-use Rattle.qp7.specs.Written.{numbersOf, numbersAt, walkedSays, Near, RecordsHold, SegmentsHold, Closes, GoesOn}
+use Rattle.qp7.specs.Inner.{numbersOf, numbersAt, walkedSays, Near, RecordsHold, SegmentsHold, Closes, GoesOn}
 use Rattle.qp7.proofs.Closing.{closing-records, closes-unwritten}
 
 -- one block more

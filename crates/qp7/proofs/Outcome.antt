@@ -23,13 +23,13 @@ use Rattle.qp7.specs.declared.Walked.the-variants.{Refused as Stopped}
 use Rattle.qp7.specs.declared.Demuxed.{Demuxed}
 use Rattle.qp7.specs.declared.Demuxed.the-variants.{Tables, Refused}
 use Rattle.qp7.specs.Walk.{Gathered, nothing, gatheredFrom, qp7Reading}
-use Rattle.qp7.specs.Outcome.{entryOf, recordWords, segmentWords, inRoom, inTables, totalsOf, answered, recordsAfter, segmentsAfter, demuxedSays, Demuxes}
-use Rattle.qp7.specs.Written.{numbersAt, walkedSays, GoesOn}
+use Rattle.qp7.specs.Outcome.{width, entryOf, recordWords, segmentWords, inRoom, inTables, totalsOf, answered, recordsAfter, segmentsAfter, demuxedSays, Demuxes}
+use Rattle.qp7.specs.Inner.{numbersAt, walkedSays, GoesOn}
 use Rattle.qp7.proofs.Gathering.{stands-answered, stands-refused}
 
 -- a segment has three words
-pub segment-words : (g : Gathered) → length (segmentWords g) ≡ 3 * length (g .closed)
-segment-words g = in-turn-long entryOf 3 (λ x. refl) (g .closed)
+pub segment-words : (g : Gathered) → length (segmentWords g) ≡ width * length (g .closed)
+segment-words g = in-turn-long entryOf width (λ x. refl) (g .closed)
 
 -- a refusal is passed on
 passed-on : (why : Refusal) (records segments : List ℕ)
@@ -80,10 +80,10 @@ module _ (said : Said Gathered) (walk : Walk) (counted : answers walk ≡ number
       let many : walk .records ≡ length (w .0 .records) = ap (λ (v : Walk). v .records) (w .2) in
       outcome-as (w .1) (ap (λ (n : ℕ). Refused (numbered 8 n)) many)
       (outcome-by (refuses 8 (length (w .0 .records)))
-      (room-8 (w .0) (length records) (length segments / 3) (omega (arith, h, many))) refl refl refl)
+      (room-8 (w .0) (length records) (length segments / width) (omega (arith, h, many))) refl refl refl)
 
   -- too little room for its segments
-  pub few-segments : walk .records ≤ length records → length segments / 3 < walk .segments
+  pub few-segments : walk .records ≤ length records → length segments / width < walk .segments
       → Demuxes said records records segments segments (Refused (numbered 9 (walk .segments)))
   few-segments l h =
       let w = stands-answered said walk counted in
@@ -91,10 +91,10 @@ module _ (said : Said Gathered) (walk : Walk) (counted : answers walk ≡ number
       let places : walk .records ≡ length (w .0 .records) = ap (λ (v : Walk). v .records) (w .2) in
       outcome-as (w .1) (ap (λ (n : ℕ). Refused (numbered 9 n)) many)
       (outcome-by (refuses 9 (length (w .0 .closed)))
-      (room-9 (w .0) (length records) (length segments / 3) (omega (arith, l, places)) (omega (arith, h, many))) refl refl refl)
+      (room-9 (w .0) (length records) (length segments / width) (omega (arith, l, places)) (omega (arith, h, many))) refl refl refl)
 
   -- room for all
-  pub all-written : (records′ segments′ : List ℕ) (r : Walked) → walk .records ≤ length records → walk .segments ≤ length segments / 3
+  pub all-written : (records′ segments′ : List ℕ) (r : Walked) → walk .records ≤ length records → walk .segments ≤ length segments / width
       → GoesOn (record { records = walk .records; segments = walk .segments }) nothing said records records′ segments segments′ r
       → Demuxes said records records′ segments segments′ (Tables (record { records = walk .records; segments = walk .segments }))
   all-written records′ segments′ r l h on =
@@ -106,10 +106,10 @@ module _ (said : Said Gathered) (walk : Walk) (counted : answers walk ≡ number
       fronts-all (1 * walk .records) (recordWords g) (omega (arith, places))
       (on .records-written records g (w .1) (fronts-none records (1 * walk .records))) in
       let table : segments′ ≡ fronted (segmentWords g) segments =
-      fronts-all (3 * walk .segments) (segmentWords g) (omega (arith, entries, segment-words g))
-      (on .segments-written segments g (w .1) (fronts-begin entryOf segments (3 * walk .segments))) in
+      fronts-all (width * walk .segments) (segmentWords g) (omega (arith, entries, segment-words g))
+      (on .segments-written segments g (w .1) (fronts-begin entryOf segments (width * walk .segments))) in
       outcome-as (w .1) (ap (λ (v : Walk). Tables (record { records = v .records; segments = v .segments })) (w .2))
-      (outcome-by (answers g) (room-for-all g (length records) (length segments / 3) (omega (arith, l, places)) (omega (arith, h, entries)))
+      (outcome-by (answers g) (room-for-all g (length records) (length segments / width) (omega (arith, l, places)) (omega (arith, h, entries)))
       refl front table)
 
 -- what the counting pass says and leaves
@@ -148,7 +148,7 @@ module _ (f : List ℕ) (records segments : List ℕ) where
 pub accepted-read : {reading : Said Gathered} {records records′ segments segments′ : List ℕ} {answer : Demuxed}
     → Demuxes reading records records′ segments segments′ answer → (totals : Totals) → demuxedSays answer ≡ answers totals
     → (g : Gathered) × (reading ≡ answers g) × (totals ≡ totalsOf g) × (length (g .records) ≤ length records)
-    × (length (g .closed) ≤ length segments / 3) × (inTables reading records segments ≡ answers g)
+    × (length (g .closed) ≤ length segments / width) × (inTables reading records segments ≡ answers g)
 unfolding inRoom
 accepted-read {reading} {records} {records′} {segments} {segments′} {answer} d totals e =
     let w = went-on (inTables reading records segments) (λ g. answers (totalsOf g)) (sym (d .answer-is) ∙ e) in
@@ -156,16 +156,16 @@ accepted-read {reading} {records} {records′} {segments} {segments′} {answer}
     went-on reading
     (λ g.
     demand (leb (length (g .records)) (length records)) 8 (length (g .records))
-    (demand (leb (length (g .closed)) (length segments / 3)) 9 (length (g .closed)) (answers g)))
+    (demand (leb (length (g .closed)) (length segments / width)) 9 (length (g .closed)) (answers g)))
     (w .1) in
     let g = v .0 in
     let places = passed (leb (length (g .records)) (length records)) 8 (length (g .records)) _ (v .2) in
-    let entries = passed (leb (length (g .closed)) (length segments / 3)) 9 (length (g .closed)) (answers g) (places .1) in (
+    let entries = passed (leb (length (g .closed)) (length segments / width)) 9 (length (g .closed)) (answers g) (places .1) in (
       g,
       v .1,
       for-the-answer (λ (x : Gathered). totals ≡ totalsOf x) (sym (entries .1)) (for-the-answer (λ (t : Totals). t ≡ totalsOf (w .0)) (w .2) refl),
       leb-true (length (g .records)) (length records) (places .0),
-      leb-true (length (g .closed)) (length segments / 3) (entries .0),
+      leb-true (length (g .closed)) (length segments / width) (entries .0),
       w .1 ∙ sym (entries .1),
     )
 

@@ -6,7 +6,7 @@ use mathlib.Core.List.{List, [], _∷_}
 use native.Mathlib.Nat.{sub-zero}
 use native.Mathlib.Omega.{arith}
 use lib.ListN.{length, length-append}
-use Rattle.tables.specs.Entries.{Puts}
+use Rattle.tables.specs.Inner.{Puts}
 use Rattle.tables.proofs.Entries.{fronts-more}
 use Rattle.refusals.specs.declared.Refusal.{Refusal}
 use Rattle.refusals.specs.Said.{Said, answers, onward, refusal}
@@ -15,7 +15,7 @@ use Rattle.qp7.specs.declared.Walk.{Walk}
 use Rattle.qp7.specs.declared.Walked.the-variants.{At, Refused}
 use Rattle.qp7.specs.Records.{recordAt}
 use Rattle.qp7.specs.Walk.{Gathered, noted, reads}
-use Rattle.qp7.specs.Written.{numbersOf, numbersAt, RecordsHold, ReadsOn}
+use Rattle.qp7.specs.Inner.{numbersOf, numbersAt, RecordsHold, ReadsOn}
 use Rattle.qp7.proofs.Standing.{stands-by}
 
 -- k of `count` records were read from g on, the last up to `place`: what was gathered, and what is left of it to be read

@@ -5,7 +5,7 @@ use mathlib.Core.Path.{_≡_}
 use lib.ListN.{length}
 use Rattle.qp7.specs.declared.Walk.{Walk}
 use Rattle.qp7.specs.Walk.{Gathered}
-use Rattle.qp7.specs.Written.{numbersOf}
+use Rattle.qp7.specs.Inner.{numbersOf}
 
 -- two walks with the same numbers are the same
 made : {p p′ r r′ s s′ f f′ : ℕ} → p ≡ p′ → r ≡ r′ → s ≡ s′ → f ≡ f′

@@ -2,4 +2,5 @@
 pub mod Records
 pub mod Walk
 pub mod Outcome
-pub mod Written
+-- what only contracts of inner functions speak of
+pub mod Inner

@@ -67,13 +67,13 @@ pub record Demuxes (reading : Said Gathered) (records records′ segments segmen
   pub segments-are : segments′ ≡ segmentsAfter (inTables reading records segments) segments
 
 -- what both tables hold of what was gathered: record k's place is word k of the one, segment i's first record, how many it has and its
--- reset are words 3 i, 3 i + 1 and 3 i + 2 of the other. Every other word of both is as it was, and so are the lengths
+-- reset are the words of entry i of the other. Every other word of both is as it was, and so are the lengths
 pub record TablesHold (g : Gathered) (records records′ segments segments′ : List ℕ) : Type 0 where
   pub places : (k : ℕ) → k < length (g .records) → getD records′ k 0 ≡ placeAt g k
-  pub firsts : (i : ℕ) → i < length (g .closed) → getD segments′ (3 * i) 0 ≡ segmentAt (g .closed) i .first
-  pub counts : (i : ℕ) → i < length (g .closed) → getD segments′ (3 * i + 1) 0 ≡ segmentAt (g .closed) i .records
-  pub resets : (i : ℕ) → i < length (g .closed) → getD segments′ (3 * i + 2) 0 ≡ segmentAt (g .closed) i .reset
+  pub firsts : (i : ℕ) → i < length (g .closed) → getD segments′ (width * i) 0 ≡ segmentAt (g .closed) i .first
+  pub counts : (i : ℕ) → i < length (g .closed) → getD segments′ (width * i + 1) 0 ≡ segmentAt (g .closed) i .records
+  pub resets : (i : ℕ) → i < length (g .closed) → getD segments′ (width * i + 2) 0 ≡ segmentAt (g .closed) i .reset
   pub records-past : (k : ℕ) → length (g .records) ≤ k → getD records′ k 0 ≡ getD records k 0
-  pub segments-past : (k : ℕ) → 3 * length (g .closed) ≤ k → getD segments′ k 0 ≡ getD segments k 0
+  pub segments-past : (k : ℕ) → width * length (g .closed) ≤ k → getD segments′ k 0 ≡ getD segments k 0
   pub records-long : length records′ ≡ length records
   pub segments-long : length segments′ ≡ length segments

@@ -1,6 +1,6 @@
 // The whole reading of QP7 files: the records and segments of a DS2 file of type 7, into two lent tables. The walk is made twice, first
 // to count and then to write, so that a refused call has written nothing.
-// Rests on detect, which says whether the file is taken, on frames, for where a block starts, on refusals, blocks and tables.
+// Rests on whole, which says whether the file is taken, on frames, for where a block starts, on refusals, blocks and tables.
 use blocks::PAYLOAD;
 use blocks::StreamPlace;
 use detect::Kind;
@@ -11,13 +11,13 @@ ghost use mathlib.Core.Path.{_≡_};
 ghost use Prim.Native.Nat.{_+_, _*_, _<_, _≤_, _^_, max};
 ghost use mathlib.Core.List.{[], _∷_};
 ghost use lib.ListN.{length};
-ghost use Rattle.tables.specs.Entries.{Puts};
+ghost use Rattle.tables.specs.Inner.{Puts};
 ghost use Rattle.refusals.specs.Said.{answers};
 ghost use Rattle.whole.specs.Admissions.{Sound, streamIn};
 ghost use Rattle.qp7.specs.Records.{recordSize, recordAt, recordSays};
+ghost use Rattle.qp7.specs.Inner.{numbersOf, numbersAt, walkedSays, Near, ReadsOn, Closes, GoesOn};
 ghost use Rattle.qp7.specs.Walk.{Gathered, nothing, withBlock, gatheredFrom, qp7Reading};
 ghost use Rattle.qp7.specs.Outcome.{width, entryOf, Demuxes};
-ghost use Rattle.qp7.specs.Written.{numbersOf, numbersAt, walkedSays, Near, ReadsOn, Closes, GoesOn};
 
 // The size of a record whose second byte has bit 7 off, and on.
 const SHORT: usize = 12;
@@ -25,7 +25,7 @@ const SHORT: usize = 12;
 const LONG: usize = 56;
 
 // The words of a segment's entry.
-const ENTRY: usize = 3;
+pub const ENTRY: usize = 3;
 
 // A record's size, or why it cannot be read.
 enum Record {

@@ -12,10 +12,9 @@ use Rattle.blocks.proofs.Headers.{announced-more, announced-upto}
 use Rattle.packets.specs.Walk.{Walk, steps, reach, Complete}
 use Rattle.packets.proofs.Start.{start-most}
 use Rattle.packets.proofs.Walk.{steps-none, steps-more, steps-place}
-use Rattle.sp.specs.Runs.{runBegin}
+use Rattle.sp.specs.Runs.{runBegin, carryPast}
 use Rattle.sp.specs.ReadLists.{dssRun, dssRuns}
 use Rattle.sp.specs.Readings.{CompleteAt}
-use Rattle.sp.proofs.Runs.{carryPast}
 use Rattle.sp.proofs.ReadLists.{dss-stands}
 use Rattle.hold.specs.Ready.{readingIn, endsAt, readIn, front, ready}
 use Rattle.hold.proofs.Ready.{dss-ready, dss-exactly, ready-complete}

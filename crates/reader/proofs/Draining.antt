@@ -13,12 +13,11 @@ use Rattle.tables.proofs.Lent.{leaves-none, leaves-over}
 use Rattle.blocks.specs.Places.{Whole, wholeBlocks}
 use Rattle.refusals.specs.Said.{answers, demand}
 use Rattle.sp.specs.declared.Demuxed.{Demuxed}
-use Rattle.sp.specs.Readings.{Reading}
+use Rattle.sp.specs.Readings.{Reading, carryAt}
 use Rattle.sp.specs.Outcome.{roomIn, demuxedSays}
 use Rattle.hold.specs.Ready.{readingIn, ready}
 use Rattle.hold.specs.Held.{baseAt, fits}
-use Rattle.hold.specs.Parts.{carryAt, PartWritten}
-use Rattle.hold.specs.Owed.{Owing}
+use Rattle.hold.specs.Inner.{PartWritten, Owing}
 use Rattle.hold.proofs.Leading.{never}
 use Rattle.hold.proofs.Front.{fits-each}
 use Rattle.hold.proofs.Longer.{base-grows-in}

@@ -15,7 +15,7 @@ use Rattle.sp.specs.Outcome.{demuxedSays}
 use Rattle.reader.specs.declared.Reader.{Reader}
 use Rattle.reader.specs.State.{State, isKind, startOf, owed, readerOf, headerFull, Sound, Reached}
 use Rattle.reader.specs.Calls.{inBlock, strictBy, strictSaid, afterStrict, Steps, EndsStrictly}
-use Rattle.pieces.specs.Joined.{accepts}
+use Rattle.pieces.specs.Inner.{accepts}
 
 -- no more packets are handed out than are announced
 pub reached-among : {r : Reader} → Reached r → r .ready + r .drained ≤ r .announced

@@ -21,9 +21,9 @@ use Rattle.sp.specs.Outcome.{demuxedSays}
 use Rattle.sp.proofs.Runs.{carry-at-first}
 use Rattle.hold.specs.declared.Standing.{Standing}
 use Rattle.hold.specs.Ready.{readingIn, front, ready}
-use Rattle.hold.specs.Held.{heldFrom, baseAt, fits, headersFrom, waitingAt, firstByte}
-use Rattle.hold.specs.Parts.{carryAt}
-use Rattle.hold.specs.Between.{holdAt, Stands}
+use Rattle.hold.specs.Held.{heldFrom, baseAt, fits, headersFrom, waitingAt, firstByte, holdAt}
+use Rattle.sp.specs.Readings.{carryAt}
+use Rattle.hold.specs.Inner.{Stands}
 use Rattle.hold.proofs.Ready.{ready-within, ready-none, base-within}
 use Rattle.hold.proofs.Front.{each-fits}
 use Rattle.reader.specs.declared.Reader.{Reader}

@@ -21,9 +21,8 @@ use Rattle.sp.specs.declared.Demuxed.{Demuxed}
 use Rattle.sp.specs.Outcome.{roomIn, demuxedSays}
 use Rattle.hold.specs.declared.Standing.{Standing}
 use Rattle.hold.specs.Ready.{ready}
-use Rattle.hold.specs.Held.{fits, waitingAt}
-use Rattle.hold.specs.Parts.{PartWritten}
-use Rattle.hold.specs.Between.{numbersAt, holdAt, Stands}
+use Rattle.hold.specs.Held.{fits, waitingAt, holdAt}
+use Rattle.hold.specs.Inner.{PartWritten, numbersAt, Stands}
 use Rattle.hold.proofs.Leading.{never}
 use Rattle.hold.proofs.Ready.{ready-within}
 use Rattle.hold.proofs.Longer.{ready-kept, base-kept, hold-kept, waiting-kept, first-kept, fits-kept, carry-same}
@@ -32,7 +31,7 @@ use Rattle.reader.specs.declared.Step.{Step}
 use Rattle.pieces.specs.Joined.{bytesFrom}
 use Rattle.reader.specs.State.{State, isDss, startOf, blocksIn, readingBy, readyBy, handed, readerOf, Sound}
 use Rattle.reader.specs.Calls.{brings, pieceSaid, afterPiece, Steps, Hands, Takes}
-use Rattle.pieces.specs.Joined.{Joins, Known, gained, judged, accepts, Able, Absorbed}
+use Rattle.pieces.specs.Inner.{Joins, Known, gained, judged, accepts, Able, Absorbed}
 use Rattle.reader.proofs.Opened.{none-stands, none-fits, standingOf, readerWith, stands-for}
 use Rattle.reader.proofs.Laws.{steps-by, hands-by, piece-accepted, bytes-joined}
 

@@ -8,11 +8,9 @@ use lib.ListN.{length}
 use lib.Dec.{eqb, leb}
 use Rattle.blocks.specs.Places.{limit, wholeBlocks, blockAt}
 use Rattle.blocks.specs.Headers.{Bytes, announcedIn}
-use Rattle.sp.specs.Readings.{Reading}
+use Rattle.sp.specs.Readings.{Reading, carryAt}
 use Rattle.hold.specs.Ready.{readingIn, ready}
-use Rattle.hold.specs.Held.{baseAt, fits, waitingAt, firstByte}
-use Rattle.hold.specs.Parts.{carryAt}
-use Rattle.hold.specs.Between.{holdAt}
+use Rattle.hold.specs.Held.{baseAt, fits, waitingAt, firstByte, holdAt}
 use Rattle.pieces.specs.Joined.{bytesFrom}
 use Rattle.reader.specs.declared.Reader.{Reader}
 

@@ -18,7 +18,7 @@ ghost use Rattle.sp.specs.Outcome.{demuxedSays};
 ghost use Rattle.reader.specs.State.{isKind, startOf, Reached};
 ghost use Rattle.reader.specs.Calls.{strictBy, Opens};
 ghost use Rattle.reader.specs.History.{PieceCall, StrictCall, LenientCall, OwedCall};
-ghost use Rattle.pieces.specs.Joined.{accepts};
+ghost use Rattle.pieces.specs.Inner.{accepts};
 
 // A reader by value: each call takes it and hands the next one back. All fields are numbers or arrays of them. `kind` is 0 for DS2 and 2
 // or 3 for DSS; `phase` is 0 while it takes pieces, 1 while it drains, 2 when it has ended. Then: bytes taken, frames announced, packets

@@ -1,5 +1,5 @@
 // Refusal numbers: why a call refuses, as a number and the number beside it. One type for every call of the project, and
-// a function for each cause that is given so far. Every function here is for the crates above. Rests on blocks, for the places.
+// a function for each cause. Every function here is for the crates above. Rests on blocks, for the places.
 use blocks::FilePlace;
 use blocks::StreamPlace;
 ghost use mathlib.Core.Path.{_≡_};

@@ -11,10 +11,11 @@ use Rattle.packets.proofs.Start.{start-most}
 use Rattle.packets.specs.Walk.{Walk, steps}
 use Rattle.packets.proofs.Walk.{steps-none}
 use Rattle.sp.specs.declared.Run.{Run}
-use Rattle.sp.specs.Runs.{runBegin, runEnd, packetsIn}
+use Rattle.sp.specs.Runs.{runBegin, runEnd, packetsIn, carryPast}
 use Rattle.sp.specs.ReadLists.{dssRun, dssRuns}
-use Rattle.sp.specs.Written.{RunWritten, Written}
-use Rattle.sp.proofs.Runs.{packets-none, packets-of, packets-joined, carryPast, carry-none, carry-joined, carry-one}
+use Rattle.sp.specs.Written.{Written}
+use Rattle.sp.specs.Inner.{RunWritten}
+use Rattle.sp.proofs.Runs.{packets-none, packets-of, packets-joined, carry-none, carry-joined, carry-one}
 use Rattle.sp.proofs.ReadLists.{runs-none, runs-more, runs-same, dss-packets}
 use Rattle.sp.proofs.Written.{by, written-none, written-without, written-more}
 

@@ -19,7 +19,8 @@ use Rattle.whole.specs.Admissions.{announcedBy, Sound}
 use Rattle.sp.specs.declared.Demuxed.the-variants.{Packets, Refused}
 use Rattle.sp.specs.Readings.{Reading, total, readingOf, readBy}
 use Rattle.sp.specs.Outcome.{roomIn, inRoom, answered, demuxedSays, Demuxes}
-use Rattle.sp.specs.Written.{Written, Readable, Ready}
+use Rattle.sp.specs.Written.{Written}
+use Rattle.sp.specs.Inner.{Readable, Ready}
 
 -- a refusal is passed on
 pub passed-on : (why : Refusal) (out counts : List ℕ) → Demuxes (refusal why) out out counts counts (Refused why)

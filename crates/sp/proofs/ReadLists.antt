@@ -13,9 +13,9 @@ use Rattle.blocks.proofs.Headers.{announced-more}
 use Rattle.packets.specs.Start.{dssStart}
 use Rattle.packets.specs.Walk.{steps}
 use Rattle.sp.specs.declared.Run.{Run}
-use Rattle.sp.specs.Runs.{runBegin, packetsIn, standsAt}
+use Rattle.sp.specs.Runs.{runBegin, packetsIn, standsAt, carryPast}
 use Rattle.sp.specs.ReadLists.{dssRun, announcing, runsOf, dssRuns, ds2Runs}
-use Rattle.sp.proofs.Runs.{packets-none, packets-of, packets-joined, carryPast, stands-first, stands-after}
+use Rattle.sp.proofs.Runs.{packets-none, packets-of, packets-joined, stands-first, stands-after}
 
 -- a run made of a block's fields
 pub run-is : (f : List ℕ) (a b byte1 place count : ℕ) (swap : Bool) → byte1 ≡ firstOf f a b → swap ≡ swapOf f a b

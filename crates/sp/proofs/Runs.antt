@@ -10,7 +10,7 @@ use Rattle.tables.proofs.Cases.{by-order}
 use Rattle.packets.specs.Walk.{Walk, step, steps}
 use Rattle.packets.proofs.Walk.{steps-none, steps-more, steps-place, steps-swap}
 use Rattle.sp.specs.declared.Run.{Run}
-use Rattle.sp.specs.Runs.{runBegin, runEnd, packetsIn, standsAt}
+use Rattle.sp.specs.Runs.{runBegin, runEnd, packetsIn, standsAt, carryPast}
 
 pub packets-none : packetsIn [] ≡ 0
 unfolding packetsIn
@@ -24,11 +24,6 @@ pub packets-joined : (xs ys : List Run) → packetsIn (xs ++ ys) ≡ packetsIn x
 unfolding packetsIn
 packets-joined [] ys = omega arith
 packets-joined (run ∷ rest) ys = omega (arith, packets-joined rest ys)
-
--- what is carried on past all the runs
-pub carryPast : (ℕ → ℕ) → ℕ → List Run → ℕ
-carryPast s carry [] = carry
-carryPast s carry (run ∷ rest) = carryPast s (runEnd s carry run .carry) rest
 
 pub carry-none : (s : ℕ → ℕ) (carry : ℕ) → carryPast s carry [] ≡ carry
 unfolding carryPast

@@ -32,13 +32,13 @@ use Rattle.packets.specs.Walk.{Walk, byteOf, reach, parity}
 use Rattle.packets.proofs.Packets.{whole-says, whole-if}
 use Rattle.packets.proofs.Walk.{steps-place, steps-swap}
 use Rattle.sp.specs.declared.Demuxed.{Demuxed}
-use Rattle.sp.specs.Runs.{runBegin}
+use Rattle.sp.specs.Runs.{runBegin, carryPast}
 use Rattle.sp.specs.ReadLists.{dssRun, dssRuns, ds2Run, ds2Runs}
 use Rattle.sp.specs.Readings.{Reading, total, walkAt, packetAt, fileCountAt, wholeAt, CompleteAt, joinedByteAt, readingOf, dssReading, ds2Reading}
 use Rattle.sp.specs.Outcome.{roomIn, inRoom, answered, outAfter, countsAfter, demuxedSays, Demuxes}
 use Rattle.sp.specs.Written.{Written}
 use Rattle.sp.specs.Longer.{SameAt}
-use Rattle.sp.proofs.Runs.{stands-first, carryPast, carry-at-first, carry-goes-on}
+use Rattle.sp.proofs.Runs.{stands-first, carry-at-first, carry-goes-on}
 use Rattle.sp.proofs.ReadLists.{dss-packets, ds2-packets, dss-stands}
 use Rattle.sp.proofs.Outcome.{read-by, accepted-read, nothing-to-read, refused-before, Seen, only-outcome}
 use Rattle.sp.proofs.Longer.{Extends, same-upto, complete-before, recordings-extend, dss-extends, ds2-extends}

@@ -11,14 +11,16 @@ use Rattle.tables.proofs.Table.{table-at}
 use Rattle.tables.proofs.Lent.{leaves-none, leaves-join, leaves-as, leaves-to}
 use Rattle.packets.specs.declared.Packet.{Packet}
 use Rattle.packets.specs.Packet.{packetByte, from, IsPacket}
-use Rattle.packets.specs.Walk.{Walk, step, steps, byteOf, joinedAt, countAt}
+use Rattle.packets.specs.Walk.{Walk, step, steps, byteOf, countAt}
+use Rattle.packets.specs.Inner.{joinedAt}
 use Rattle.packets.proofs.Packets.{read-most}
 use Rattle.packets.proofs.Walk.{steps-none, steps-more, joined-is, joined-in}
 use Rattle.sp.specs.declared.Run.{Run}
-use Rattle.sp.specs.Runs.{runBegin, packetsIn, standsAt}
+use Rattle.sp.specs.Runs.{runBegin, packetsIn, standsAt, carryPast}
 use Rattle.sp.specs.Readings.{Reading, total, joinedByteAt, fileCountAt}
-use Rattle.sp.specs.Written.{RunWritten, Written}
-use Rattle.sp.proofs.Runs.{packets-none, packets-of, packets-joined, carryPast, carry-none, stands-before, stands-after, stands-first}
+use Rattle.sp.specs.Written.{Written}
+use Rattle.sp.specs.Inner.{RunWritten}
+use Rattle.sp.proofs.Runs.{packets-none, packets-of, packets-joined, carry-none, stands-before, stands-after, stands-first}
 
 module _ (s : ℕ → ℕ) (long : ℕ) (w : Walk) (base : ℕ) (out counts : List ℕ) where
   run-none : RunWritten s long w base 0 out out counts counts (w .carry)

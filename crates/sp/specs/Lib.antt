@@ -5,3 +5,5 @@ pub mod Readings
 pub mod Outcome
 pub mod Written
 pub mod Longer
+-- what only contracts of inner functions speak of
+pub mod Inner

@@ -29,6 +29,10 @@ total reading = packetsIn (reading .runs)
 abbrev pub walkAt : Reading → ℕ → Walk
 walkAt reading k = standsAt (reading .stream) 0 (reading .runs) k
 
+-- what is carried before packet k
+abbrev pub carryAt : Reading → ℕ → ℕ
+carryAt reading k = walkAt reading k .carry
+
 -- packet k, and its file-byte count
 abbrev pub packetAt : Reading → ℕ → List ℕ
 packetAt reading k = table 42 (byteOf (reading .stream) (walkAt reading k))

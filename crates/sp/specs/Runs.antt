@@ -24,3 +24,8 @@ unfoldable pub standsAt : (ℕ → ℕ) → ℕ → List Run → ℕ → Walk
 standsAt s carry [] k = record { place = 0; carry = carry; swap = false }
 standsAt s carry (run ∷ rest) k =
     cond (ltb k (run .count)) (steps s (runBegin carry run) k) (standsAt s (runEnd s carry run .carry) rest (k - run .count))
+
+-- what is carried on past all the runs
+unfoldable pub carryPast : (ℕ → ℕ) → ℕ → List Run → ℕ
+carryPast s carry [] = carry
+carryPast s carry (run ∷ rest) = carryPast s (runEnd s carry run .carry) rest

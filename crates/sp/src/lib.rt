@@ -1,5 +1,5 @@
 // Whole SP reading: a DSS file's packets, or a DS2 SP file's, into lent memory. The two differ only in their list of reads.
-// Rests on detect, which says whether the file is taken, on packets, which gives a packet for a read, on refusals, blocks and tables.
+// Rests on whole, which says whether the file is taken, on packets, which gives a packet for a read, on refusals, blocks and tables.
 use blocks::FilePlace;
 use blocks::StreamPlace;
 use detect::Kind;
@@ -21,7 +21,8 @@ ghost use Rattle.sp.specs.Runs.{runBegin};
 ghost use Rattle.sp.specs.ReadLists.{dssRun, dssRuns, ds2Runs};
 ghost use Rattle.sp.specs.Readings.{readingOf, readBy, dssReading, ds2Reading};
 ghost use Rattle.sp.specs.Outcome.{Demuxes};
-ghost use Rattle.sp.specs.Written.{RunWritten, Written, Readable, AllReadable, Ready};
+ghost use Rattle.sp.specs.Written.{Written};
+ghost use Rattle.sp.specs.Inner.{RunWritten, Readable, AllReadable, Ready};
 
 // Reads that follow one another: from a start, by a parity to begin with, so many packets. Public for the definitions and for the
 // crates above.

@@ -9,7 +9,8 @@ use lib.ListN.{length, getD, set, length-append, List·getD-append}
 use lib.Seq.{getD-append-add, ext-getD}
 use Rattle.tables.specs.Table.{sumOf, Each}
 use Rattle.tables.specs.Lent.{Leaves}
-use Rattle.tables.specs.Entries.{inTurn, fronted, Fronts, Puts}
+use Rattle.tables.specs.Entries.{inTurn, fronted}
+use Rattle.tables.specs.Inner.{Fronts, Puts}
 use Rattle.tables.proofs.Cases.{by-order}
 use Rattle.tables.proofs.Lent.{leaves-none, leaves-first, leaves-more, leaves-to, leaves-as, leaves-join, leaves-over, over-in, over-long, over-leaves}
 

@@ -1,10 +1,9 @@
--- A table of entries, each so many words wide, that is written from the front: as far as some number of words, and no further.
+-- A table of entries, each so many words wide, that is written from the front.
 -- Assumes nothing.
-use Prim.Native.Nat.{ℕ, _*_, _≤_, _<_, min}
-use mathlib.Core.Path.{_≡_}
+use Prim.Native.Nat.{ℕ}
 use mathlib.Core.List.{List, [], _∷_, _++_}
 use lib.ListN.{length, getD}
-use Rattle.tables.specs.Lent.{Leaves, over}
+use Rattle.tables.specs.Lent.{over}
 
 -- what each thing in a list gives, one after another
 unfoldable pub inTurn : {A B : Type 0} → (A → List B) → List A → List B
@@ -14,12 +13,3 @@ inTurn gives (x ∷ rest) = gives x ++ inTurn gives rest
 -- d with all the words of a list over its front
 abbrev pub fronted : List ℕ → List ℕ → List ℕ
 fronted words d = over (length words) (λ k. getD words k 0) d
-
--- e is d with the words of a list over its front, as many of them as `most` and no more
-abbrev pub Fronts : List ℕ → ℕ → List ℕ → List ℕ → Type 0
-Fronts d most words e = Leaves d 0 (min most (length words)) (λ k. getD words k 0) e
-
--- an entry is put after `number` others of its width where that number is below `most`, and is otherwise left out
-pub record Puts (d : List ℕ) (number most : ℕ) (entry : List ℕ) (e : List ℕ) : Type 0 where
-  pub put : number < most → Leaves d (length entry * number) (length entry) (λ k. getD entry k 0) e
-  pub left-out : most ≤ number → e ≡ d

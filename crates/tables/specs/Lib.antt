@@ -3,3 +3,5 @@ pub mod Table
 pub mod Lent
 pub mod Settled
 pub mod Entries
+-- what only contracts of inner functions speak of
+pub mod Inner

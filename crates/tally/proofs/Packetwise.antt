@@ -20,7 +20,8 @@ use Rattle.sp.specs.Runs.{runBegin, packetsIn}
 use Rattle.sp.specs.Readings.{Reading, total, walkAt, wholeAt, fileCountAt}
 use Rattle.sp.proofs.Runs.{packets-none, packets-of, stands-first}
 use Rattle.tally.specs.declared.HandedOut.{HandedOut}
-use Rattle.tally.specs.HandedOut.{packetsOut, noneOut}
+use Rattle.tally.specs.HandedOut.{packetsOut}
+use Rattle.tally.specs.Inner.{noneOut}
 
 -- what has the same three numbers is the same
 pub same-numbers : {m m′ s s′ b b′ : ℕ} → m ≡ m′ → s ≡ s′ → b ≡ b′

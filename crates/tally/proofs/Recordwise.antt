@@ -24,7 +24,7 @@ use Rattle.qp7.specs.declared.Walked.{Walked}
 use Rattle.qp7.specs.declared.Walked.the-variants.{Refused}
 use Rattle.qp7.specs.Records.{recordSize}
 use Rattle.qp7.specs.Walk.{Gathered, nothing, raised, closing, reads, withBlock, gatheredTo, gatheredFrom}
-use Rattle.qp7.specs.Written.{numbersOf, numbersAt, walkedSays}
+use Rattle.qp7.specs.Inner.{numbersOf, numbersAt, walkedSays}
 use Rattle.qp7.proofs.Records.{record-found}
 use Rattle.qp7.proofs.Closing.{closing-records, closing-place}
 use Rattle.qp7.proofs.Reading.{reads-keep}

@@ -14,13 +14,14 @@ use Rattle.packets.specs.Packet.{fileCount, isWhole}
 use Rattle.packets.specs.Walk.{Walk}
 use Rattle.frames.specs.Frames.{howMany}
 use Rattle.sp.specs.declared.Run.{Run}
-use Rattle.sp.specs.Runs.{packetsIn, standsAt}
+use Rattle.sp.specs.Runs.{packetsIn, standsAt, carryPast}
 use Rattle.sp.specs.ReadLists.{dssRun, dssRuns}
 use Rattle.sp.specs.Readings.{wholeAt}
-use Rattle.sp.proofs.Runs.{packets-none, packets-joined, carryPast, stands-before, stands-after, reads-fixed}
+use Rattle.sp.proofs.Runs.{packets-none, packets-joined, stands-before, stands-after, reads-fixed}
 use Rattle.sp.proofs.ReadLists.{runs-none, runs-more, runs-same}
 use Rattle.tally.specs.declared.HandedOut.{HandedOut}
-use Rattle.tally.specs.HandedOut.{packetsOut, noneOut, together}
+use Rattle.tally.specs.HandedOut.{packetsOut}
+use Rattle.tally.specs.Inner.{noneOut, together}
 use Rattle.tally.proofs.Packetwise.{same-out, nothing-out, by}
 
 -- how many are such is a sum of ones

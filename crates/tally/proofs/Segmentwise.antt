@@ -16,11 +16,12 @@ use Rattle.frames.proofs.Frames.{handed-is, short-is, sizes-add-up}
 use Rattle.qp.specs.declared.Segment.{Segment}
 use Rattle.qp.specs.declared.Gathering.{Gathering}
 use Rattle.qp.specs.Segments.{Gathered, nothing, openSegment, closed, moved, counted, gatheredTo}
-use Rattle.qp.specs.Written.{numbersOf}
+use Rattle.qp.specs.Inner.{numbersOf}
 use Rattle.qp.proofs.Gathers.{closed-none, closed-some, moved-on, moved-away}
 use Rattle.qp.proofs.Blockwise.{gathered-none, gathered-more}
 use Rattle.tally.specs.declared.HandedOut.{HandedOut}
-use Rattle.tally.specs.HandedOut.{framesOut, noneOut, together}
+use Rattle.tally.specs.HandedOut.{framesOut}
+use Rattle.tally.specs.Inner.{noneOut, together}
 use Rattle.tally.proofs.Packetwise.{same-numbers}
 
 -- so many bytes cut by 56: the whole frames and one for what is left, which is the short one

@@ -31,10 +31,3 @@ sizesOf s places = sumOf (λ q. recordSize (s (q + 1))) places
 
 abbrev pub recordsOut : (ℕ → ℕ) → List ℕ → HandedOut
 recordsOut s places = record { many = length places; short = 0; bytes = sizesOf s places }
-
--- nothing, and two such added up
-abbrev pub noneOut : HandedOut
-noneOut = record { many = 0; short = 0; bytes = 0 }
-
-abbrev pub together : HandedOut → HandedOut → HandedOut
-together x y = record { many = x .many + y .many; short = x .short + y .short; bytes = x .bytes + y .bytes }

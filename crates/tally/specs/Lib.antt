@@ -2,3 +2,5 @@
 pub mod HandedOut
 pub mod Tallies
 pub mod Agreement
+-- what only contracts of inner functions speak of
+pub mod Inner

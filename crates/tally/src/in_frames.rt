@@ -11,7 +11,7 @@ ghost use Prim.Native.Nat.{_+_, _*_, _≤_, _<_, _^_};
 ghost use mathlib.Core.List.{[], _∷_};
 ghost use Rattle.whole.specs.Admissions.{Sound};
 ghost use Rattle.qp.specs.Segments.{Gathered, openSegment, moved, segmentsFrom};
-ghost use Rattle.qp.specs.Written.{numbersOf, Near};
+ghost use Rattle.qp.specs.Inner.{numbersOf, Near};
 ghost use Rattle.tally.specs.HandedOut.{framesOut};
 
 // What the segment hands out that is open, in a stream of so many bytes; nothing if it has no frames.

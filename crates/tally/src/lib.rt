@@ -8,8 +8,8 @@ use whole::Recording;
 ghost use mathlib.Core.Path.{_≡_};
 ghost use Prim.Native.Nat.{_+_, _-_, _<_, _^_};
 ghost use Rattle.whole.specs.Admissions.{Sound, announcedBy};
-ghost use Rattle.tally.specs.HandedOut.{together};
-ghost use Rattle.tally.specs.Tallies.{handedBy, countedAs, ds2Kind, kindIn, tallied, talliedSays, countsSay};
+ghost use Rattle.tally.specs.Inner.{together};
+ghost use Rattle.tally.specs.Tallies.{countsSay, handedBy, countedAs, ds2Kind, kindIn, tallied, talliedSays};
 
 // SP packets, by runs.
 mod in_packets;

@@ -3,13 +3,13 @@
 use blocks::FilePlace;
 use blocks::StreamPlace;
 use detect::AudioFormat;
+use frames::Fetched;
+use sp::Demuxed;
 use test_expected::Seen;
 use test_expected::expect;
 use test_expected::expect_all;
 use test_fetched::qp_said;
 use test_fetched::qp7_said;
-use frames::Fetched;
-use sp::Demuxed;
 use test_sums::BESIDE;
 use test_sums::NUMBER;
 use test_sums::PACKETS;
@@ -75,7 +75,7 @@ pub fn both_sp(list: &[u8], before: Seen, file: &[u8], out: &mut [u8], counts: &
 
 // So many words of so many entries, and 16 past them.
 fn words(width: usize, entries: usize) -> usize {
-    if width < 5 && entries < 1000000000 {
+    if width < 8 && entries < 1000000000 {
         width * entries + 16
     } else {
         0
@@ -87,7 +87,11 @@ fn with_segments(list: &[u8], before: Seen, file: &[u8], said: [u64; 4], table: 
     let segments = said[2] as usize;
     let all = test_fetched::of_segments(file, table, segments);
     let mut seen = expect_all(list, before, &said, 0, 4);
-    seen = expect(list, seen, digest_words(0, table, words(4, segments)));
+    seen = expect(
+        list,
+        seen,
+        digest_words(0, table, words(qp::ENTRY, segments)),
+    );
     expect(list, seen, all.digest)
 }
 
@@ -117,7 +121,7 @@ fn with_records(
     let all = test_fetched::of_records(file, records, segments, many);
     let left = [
         digest_words(0, records, words(1, said[2] as usize)),
-        digest_words(0, segments, words(3, many)),
+        digest_words(0, segments, words(qp7::ENTRY, many)),
         all.digest,
     ];
     let seen = expect_all(list, before, &said, 0, 4);

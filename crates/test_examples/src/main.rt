@@ -3,6 +3,7 @@
 use blocks::FilePlace;
 use detect::AudioFormat;
 use detect::Kind;
+use sp::Demuxed;
 use test_samples::ds2_file;
 use test_samples::long_records;
 use test_samples::shown::number;
@@ -11,7 +12,6 @@ use test_samples::shown::show_refusal;
 use test_samples::shown::text;
 use test_samples::shown::word;
 use test_samples::two_blocks;
-use sp::Demuxed;
 ghost use mathlib.Core.Path.{_≡_};
 ghost use Prim.Native.Nat.{_≤_};
 ghost use lib.ListN.{length};
@@ -69,7 +69,7 @@ fn counts_with(count: u8, byte1: u8, many: usize) -> usize {
     let mut counts: usize = 0;
     let mut next: usize = 0;
     while next < 256 {
-        let mut table = [0u32; 8];
+        let mut table = [0u32; 2 * qp::ENTRY];
         let here = segments(two_blocks(count, byte1, next as u8), &mut table);
         counts += one_if_equal(here, many);
         next += 1;
@@ -79,7 +79,7 @@ fn counts_with(count: u8, byte1: u8, many: usize) -> usize {
 
 // The first segment of two blocks, the second of which does not follow.
 fn show_segment() {
-    let mut table = [0u32; 8];
+    let mut table = [0u32; 2 * qp::ENTRY];
     segments(two_blocks(9, 3, 9), &mut table);
     word(table[0]);
     word(table[1]);
@@ -124,7 +124,7 @@ fn show_records(file: [u8; 4096])
     requires { ⌜ length file ≡ 4096 ⌝ }
 {
     let mut records = [0u32; 16];
-    let mut segments = [0u32; 3];
+    let mut segments = [0u32; qp7::ENTRY];
     let answer = qp7::demux_ds2_qp7(&file[0..2048], &mut records, &mut segments);
     match answer {
         qp7::Demuxed::Tables(totals) => {

@@ -91,7 +91,7 @@ pub fn of_segments(file: &[u8], table: &[u32], segments: usize) -> Gathered {
         let frames = word(table, sum(at, 2));
         let reset = word(table, sum(at, 3));
         all = with_frames(with_head(all, frames, reset), file, start, long, frames);
-        at = sum(at, 4);
+        at = sum(at, qp::ENTRY);
         k += 1;
     }
     all
@@ -148,7 +148,7 @@ pub fn of_records(file: &[u8], records: &[u32], table: &[u32], segments: usize) 
         let many = word(table, sum(at, 1));
         let reset = word(table, sum(at, 2));
         all = with_records(with_head(all, many, reset), file, records, first, many);
-        at = sum(at, 3);
+        at = sum(at, qp7::ENTRY);
         k += 1;
     }
     all

@@ -1,12 +1,12 @@
 // One file in pieces: what a reader hands out that is fed it and drained, against the file's whole reading. Rests on reader,
 // test_feeding, test_ends, test_generated, test_readings, test_sums and test_tools.
+use reader::Reader;
 use test_ends::drained_by_64;
 use test_ends::strict_said;
 use test_generated::Made;
 use test_generated::tried::Tried;
 use test_generated::tried::show_cuts;
 use test_generated::tried::with_cut;
-use reader::Reader;
 use test_readings::Whole;
 use test_sums::Sums;
 use test_tools::Cuts;
@@ -100,5 +100,10 @@ pub fn try_cut(
     if wrong != 0 {
         show_cuts(number, cuts);
     }
-    with_cut(before, came[test_sums::PACKETS], came[test_sums::NUMBER], wrong)
+    with_cut(
+        before,
+        came[test_sums::PACKETS],
+        came[test_sums::NUMBER],
+        wrong,
+    )
 }

@@ -1,5 +1,7 @@
 // One file's whole reading and its tally, in numbers. All of it is for the crates above. Rests on the whole calls and the tally, on
 // test_generated, and on test_fetched, test_sums, test_tools and tables.
+use tally::FileKind;
+use tally::Tallied;
 use test_fetched::Gathered;
 use test_fetched::qp_said;
 use test_fetched::qp7_said;
@@ -9,8 +11,6 @@ use test_sums::BYTES;
 use test_sums::COUNTS;
 use test_sums::NUMBER;
 use test_sums::PACKETS;
-use tally::FileKind;
-use tally::Tallied;
 
 // A file's whole reading: the nine numbers that a tally has of it, and digests of its packets and of their counts.
 pub type Whole = [u64; 11];

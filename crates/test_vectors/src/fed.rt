@@ -1,12 +1,12 @@
 // A file read in pieces: every answer of the reader, held to the list; and the limit, which no file of the list reaches. Rests on reader, on
 // test_feeding and test_ends, and on test_expected, test_sums and test_tools.
+use libc::STDOUT_FILENO;
+use reader::Reader;
 use test_ends::Ended;
 use test_ends::LenientEnd;
 use test_expected::Seen;
 use test_expected::expect;
 use test_expected::expect_all;
-use libc::STDOUT_FILENO;
-use reader::Reader;
 use test_sums::BESIDE;
 use test_sums::BYTES;
 use test_sums::NUMBER;

@@ -102,9 +102,9 @@ static void perform_whole(const struct question *q, struct slice b, struct slice
     else if (q->export == DEMUX_DS2_SP)
         a = klov_demux_ds2_sp(file, len, b.at, b.len, c.at, c.len);
     else if (q->export == DEMUX_QP)
-        a = klov_demux_ds2_qp(file, len, (uint32_t *)b.at, b.len / 4);
+        a = klov_demux_ds2_qp(file, len, (uint32_t *)b.at, b.len / WORD);
     else if (q->export == DEMUX_QP7)
-        a = klov_demux_ds2_qp7(file, len, (uint32_t *)b.at, b.len / 4, (uint32_t *)c.at, c.len / 4);
+        a = klov_demux_ds2_qp7(file, len, (uint32_t *)b.at, b.len / WORD, (uint32_t *)c.at, c.len / WORD);
     else if (q->export == FRAME_OF)
         a = klov_frame(q->x, q->y, q->z);
     else if (q->export == FETCH)

@@ -11,6 +11,8 @@
 #include <stdint.h>
 
 enum { PAGE = 4096, BLOCK = 512, HEAD = 6, STREAM = 506, PACKET = 42, FRAME = 56, HOLD = 12288, DS2_START = 1536 };
+/* bytes of a table's word, and words of a segment's entry */
+enum { WORD = 4, QP_WORDS = 4, QP7_WORDS = 3 };
 enum { LIMIT = 268435456, NUMBERS = 9, MOST_FILE = 120000 };
 
 /* ---- guard.c: memory ---- */
@@ -114,7 +116,7 @@ struct walk {
 };
 
 struct lists {
-    uint32_t *words; /* QP: four a segment. QP7: a record each */
+    uint32_t *words; /* QP: QP_WORDS a segment. QP7: a record each */
     uint32_t *segments;
     uint64_t n, segment_count, bytes, handed, shorts;
 };

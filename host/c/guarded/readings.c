@@ -102,8 +102,8 @@ static void close_segment(struct lists *l, uint64_t start, uint64_t place, uint6
     if (frames == 0)
         return;
     uint64_t length = (place < stream_end ? place : stream_end) - start;
-    uint32_t entry[4] = {(uint32_t)start, (uint32_t)length, (uint32_t)frames, l->n > 0};
-    memcpy(l->words + 4 * l->n, entry, sizeof entry);
+    uint32_t entry[QP_WORDS] = {(uint32_t)start, (uint32_t)length, (uint32_t)frames, l->n > 0};
+    memcpy(l->words + QP_WORDS * l->n, entry, sizeof entry);
     l->n++;
     l->bytes += length;
     l->handed += (length + FRAME - 1) / FRAME;
@@ -132,8 +132,8 @@ static void close_records(struct lists *l, uint64_t first)
 {
     if (l->n == first)
         return;
-    uint32_t entry[3] = {(uint32_t)first, (uint32_t)(l->n - first), l->segment_count > 0};
-    memcpy(l->segments + 3 * l->segment_count, entry, sizeof entry);
+    uint32_t entry[QP7_WORDS] = {(uint32_t)first, (uint32_t)(l->n - first), l->segment_count > 0};
+    memcpy(l->segments + QP7_WORDS * l->segment_count, entry, sizeof entry);
     l->segment_count++;
 }
 

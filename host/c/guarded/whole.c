@@ -83,13 +83,13 @@ static void segments(struct slice file)
     lists.n = 0;
     if (first.numbers[0] == 0)
         model_segments(seen_as(file), &s, &lists);
-    uint64_t n = lists.n;
-    const uint64_t rooms[] = {4 * n, 4 * n + 3, less_one(4 * n), 4 * less_one(n), 0, 4 * n + 9};
+    uint64_t n = lists.n, all = QP_WORDS * n;
+    const uint64_t rooms[] = {all, all + 3, less_one(all), QP_WORDS * less_one(n), 0, all + 9};
     for (size_t i = 0; i < sizeof rooms / sizeof *rooms; i++) {
-        struct answer want = first.numbers[0] != 0 ? first : rooms[i] / 4 < n ? refused(9, n) : answered(n, s.announced);
+        struct answer want = first.numbers[0] != 0 ? first : rooms[i] / QP_WORDS < n ? refused(9, n) : answered(n, s.announced);
         if (want.numbers[0] == 0)
-            want.b = (struct slice){(uint8_t *)lists.words, 16 * n};
-        expect(&(struct question){.export = DEMUX_QP, .in = file, .b_len = 4 * rooms[i]}, &want);
+            want.b = (struct slice){(uint8_t *)lists.words, WORD * all};
+        expect(&(struct question){.export = DEMUX_QP, .in = file, .b_len = WORD * rooms[i]}, &want);
     }
 }
 
@@ -100,20 +100,20 @@ static void records(struct slice file)
     lists.n = lists.segment_count = 0;
     if (first.numbers[0] == 0)
         first = model_records(seen_as(file), &s, &lists);
-    uint64_t n = lists.n, m = lists.segment_count;
-    const uint64_t rooms[][2] = {{n, 3 * m}, {n + 5, 3 * m + 4}, {less_one(n), 3 * m}, {n, less_one(3 * m)},
-                                 {n, 0},     {less_one(n), 0},    {0, 0}};
+    uint64_t n = lists.n, m = lists.segment_count, all = QP7_WORDS * m;
+    const uint64_t rooms[][2] = {{n, all}, {n + 5, all + 4}, {less_one(n), all}, {n, less_one(all)},
+                                 {n, 0},   {less_one(n), 0}, {0, 0}};
     for (size_t i = 0; i < sizeof rooms / sizeof *rooms; i++) {
         struct answer want = first;
         if (first.numbers[0] == 0 && rooms[i][0] < n)
             want = refused(8, n);
-        else if (first.numbers[0] == 0 && rooms[i][1] / 3 < m)
+        else if (first.numbers[0] == 0 && rooms[i][1] / QP7_WORDS < m)
             want = refused(9, m);
         if (want.numbers[0] == 0) {
-            want.b = (struct slice){(uint8_t *)lists.words, 4 * n};
-            want.c = (struct slice){(uint8_t *)lists.segments, 12 * m};
+            want.b = (struct slice){(uint8_t *)lists.words, WORD * n};
+            want.c = (struct slice){(uint8_t *)lists.segments, WORD * all};
         }
-        expect(&(struct question){.export = DEMUX_QP7, .in = file, .b_len = 4 * rooms[i][0], .c_len = 4 * rooms[i][1]}, &want);
+        expect(&(struct question){.export = DEMUX_QP7, .in = file, .b_len = WORD * rooms[i][0], .c_len = WORD * rooms[i][1]}, &want);
     }
 }
 
@@ -160,7 +160,7 @@ static void frames(struct slice file)
         return;
     model_segments(seen_as(file), &s, &lists);
     for (uint64_t i = 0; i < lists.n && i < 4; i++) {
-        const uint32_t *segment = lists.words + 4 * i;
+        const uint32_t *segment = lists.words + QP_WORDS * i;
         uint64_t there = (segment[1] + FRAME - 1) / FRAME;
         for (uint64_t k = 0; k < segment[2] + 2u; k = k == 3 && there > 8 ? there - 2 : k + 1) {
             frame(segment[0], segment[1], k);

@@ -5,7 +5,7 @@ use crate::frames;
 use crate::packets::{gathered, Packets};
 use crate::places::{payload_stream, StreamPlace};
 use crate::reader::Fed;
-use crate::{raw, FRAME, LIMIT};
+use crate::{raw, FRAME, LIMIT, QP7_WORDS, QP_WORDS};
 
 /// A QP segment with its bytes.
 #[derive(Clone, Debug, PartialEq, Eq)]
@@ -135,8 +135,8 @@ pub struct QpRow {
 }
 
 impl QpRow {
-    /// A segment's four words of the table.
-    pub fn from_words(words: [u32; 4]) -> QpRow {
+    /// A segment's words of the table.
+    pub fn from_words(words: [u32; QP_WORDS]) -> QpRow {
         let [start, length, frames, reset] = words;
         QpRow { start: StreamPlace(start as usize), length: length as usize, frames: frames as usize, reset_before: reset != 0 }
     }
@@ -157,13 +157,13 @@ pub fn demux_ds2_qp(data: &[u8]) -> Result<QpTable> {
         Err(Refusal { number: 9, beside }) => beside as usize,
         answer => answer?.0,
     };
-    let mut table = vec![0; 4 * needed];
+    let mut table = vec![0; QP_WORDS * needed];
     let (_, announced) = demux_ds2_qp_into(data, &mut table)?;
-    let rows = table.chunks_exact(4).map(|row| QpRow::from_words([row[0], row[1], row[2], row[3]])).collect();
+    let rows = table.chunks_exact(QP_WORDS).map(|row| QpRow::from_words([row[0], row[1], row[2], row[3]])).collect();
     Ok(QpTable { rows, announced })
 }
 
-/// All segments of a QP file into lent words, four a segment ([`QpRow::from_words`]): how many, and how many frames all blocks
+/// All segments of a QP file into lent words, [`QP_WORDS`] a segment ([`QpRow::from_words`]): how many, and how many frames all blocks
 /// announce. Refusals 1, 2, 3, 11, 9.
 pub fn demux_ds2_qp_into(data: &[u8], table: &mut [u32]) -> Result<(usize, usize)> {
     raw::demux_ds2_qp(data, table)
@@ -181,8 +181,8 @@ pub struct Qp7Row {
 }
 
 impl Qp7Row {
-    /// A segment's three words of the table.
-    pub fn from_words(words: [u32; 3]) -> Qp7Row {
+    /// A segment's words of the table.
+    pub fn from_words(words: [u32; QP7_WORDS]) -> Qp7Row {
         let [first, records, reset] = words;
         Qp7Row { first: first as usize, records: records as usize, reset_before: reset != 0 }
     }
@@ -205,16 +205,16 @@ pub fn demux_ds2_qp7(data: &[u8]) -> Result<Qp7Table> {
         records.resize(beside as usize, 0);
     }
     if let Err(Refusal { number: 9, beside }) = demux_ds2_qp7_into(data, &mut records, &mut segments) {
-        segments.resize(3 * beside as usize, 0);
+        segments.resize(QP7_WORDS * beside as usize, 0);
     }
     demux_ds2_qp7_into(data, &mut records, &mut segments)?;
     Ok(Qp7Table {
         records: records.iter().map(|&place| StreamPlace(place as usize)).collect(),
-        rows: segments.chunks_exact(3).map(|row| Qp7Row::from_words([row[0], row[1], row[2]])).collect(),
+        rows: segments.chunks_exact(QP7_WORDS).map(|row| Qp7Row::from_words([row[0], row[1], row[2]])).collect(),
     })
 }
 
-/// All records of a QP7 file into lent words, a place in the payload stream each, and all segments, three words each
+/// All records of a QP7 file into lent words, a place in the payload stream each, and all segments, [`QP7_WORDS`] each
 /// ([`Qp7Row::from_words`]): how many records, and how many segments. Refusals 1, 2, 3, 11, 4, 5, 8, 9.
 pub fn demux_ds2_qp7_into(data: &[u8], records: &mut [u32], segments: &mut [u32]) -> Result<(usize, usize)> {
     raw::demux_ds2_qp7(data, records, segments)

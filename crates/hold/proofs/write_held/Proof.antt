@@ -2,7 +2,7 @@
 -- Assumes nothing.
 use Prim.Native.Nat.{_-_}
 use native.Mathlib.Omega.{arith}
-use Rattle.hold.specs.Held.{Holds}
+use Rattle.hold.specs.Inner.{Holds}
 use Rattle.hold.proofs.Handed.{Handing, handing-begins, handing-goes-on, handing-ends}
 use borrow.Author.Needs.{needs}
 use Rattle.hold.proofs.write_held.Statement.{statement}

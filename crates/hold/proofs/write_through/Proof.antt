@@ -3,7 +3,7 @@
 use Prim.Native.Nat.{_+_, _-_}
 use native.Mathlib.Omega.{arith}
 use denote.Ref.{now}
-use Rattle.hold.specs.Held.{Bears}
+use Rattle.hold.specs.Inner.{Bears}
 use Rattle.hold.proofs.Handed.{Handing, handing-begins, handing-goes-on, handing-ends}
 use Rattle.hold.proofs.Through.{read-inside}
 use borrow.Author.Needs.{needs}

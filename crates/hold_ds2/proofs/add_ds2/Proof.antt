@@ -9,8 +9,7 @@ use native.Mathlib.Omega.{arith}
 use lib.ListN.{length}
 use Rattle.blocks.specs.Places.{streamAt}
 use Rattle.packets.specs.Walk.{reach}
-use Rattle.hold.specs.Held.{Holds}
-use Rattle.hold.specs.Between.{Next}
+use Rattle.hold.specs.Inner.{Holds, Next}
 use Rattle.blocks.proofs.Headers.{announced-most}
 use Rattle.hold.proofs.Adding.{numbers, begun, block-fits, holds-now}
 use Rattle.hold_ds2.proofs.Ds2Block.{Counted, not-back, walking, walked}

@@ -7,8 +7,7 @@ use denote.Ref.{now}
 use native.Mathlib.Omega.{arith}
 use lib.ListN.{length}
 use Rattle.blocks.specs.Places.{streamAt}
-use Rattle.hold.specs.Held.{Holds}
-use Rattle.hold.specs.Between.{Next}
+use Rattle.hold.specs.Inner.{Holds, Next}
 use Rattle.hold.proofs.Ready.{ready-within}
 use Rattle.blocks.proofs.Headers.{announced-most}
 use Rattle.hold.proofs.Adding.{numbers}

@@ -2,7 +2,7 @@
 -- Assumes nothing.
 use mathlib.Core.Path.{ap}
 use Rattle.tables.proofs.Tests.{told}
-use Rattle.qp7.specs.Written.{walkedSays}
+use Rattle.qp7.specs.Inner.{walkedSays}
 use Rattle.qp7.proofs.Outcome.{counting-refused, counting-kept}
 use borrow.Author.Needs.{needs}
 use Rattle.qp7.proofs.read.Statement.{statement}

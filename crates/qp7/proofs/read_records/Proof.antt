@@ -8,9 +8,9 @@ use Rattle.tables.proofs.Tests.{told}
 use Rattle.blocks.specs.Places.{streamAt}
 use Rattle.refusals.proofs.Said.{not-both}
 use Rattle.qp7.specs.declared.Walk.{Walk}
+use Rattle.qp7.specs.Inner.{numbersOf}
 use Rattle.qp7.specs.Records.{recordSays}
 use Rattle.qp7.specs.Walk.{Gathered}
-use Rattle.qp7.specs.Written.{numbersOf}
 use Rattle.qp7.proofs.Records.{record-found, why-is}
 use Rattle.qp7.proofs.Reading.{Came, reading-begins, reading-goes-on, reading-stops, reading-ends, near-after}
 use borrow.Author.Needs.{needs}

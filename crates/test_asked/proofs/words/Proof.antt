@@ -8,8 +8,8 @@ use borrow.Author.Needs.{needs}
 use Rattle.test_asked.proofs.words.Statement.{statement}
 use Rattle.test_asked.proofs.words.Tie as tie
 
--- An entry has at most four words.
-few : (c : tie.Then2) → c .before .before .args .width * c .before .before .args .entries ≤ 4 * c .before .before .args .entries
+-- An entry has under eight words.
+few : (c : tie.Then2) → c .before .before .args .width * c .before .before .args .entries ≤ 7 * c .before .before .args .entries
 few c = mul-le-mul-right (c .before .before .args .entries) (omega arith)
 
 mul-result : tie.Need-mul-result

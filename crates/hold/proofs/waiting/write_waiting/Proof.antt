@@ -5,7 +5,7 @@ use mathlib.Core.Path.{refl}
 use native.Mathlib.Omega.{arith}
 use lib.ListN.{length}
 use Rattle.blocks.specs.Places.{streamAt}
-use Rattle.hold.specs.Owed.{Queued}
+use Rattle.hold.specs.Inner.{Queued}
 use Rattle.hold.proofs.Queue.{Queueing, queue-begins, block-there, part-asked, queue-goes-on, queue-ends}
 use borrow.Author.Needs.{needs}
 use Rattle.hold.proofs.waiting.write_waiting.Statement.{statement}

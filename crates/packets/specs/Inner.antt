@@ -1,11 +1,12 @@
--- How a packet is gathered: from bytes that lie together, or across the seam between two blocks.
--- Assumes nothing.
-use Prim.Native.Nat.{ℕ, _+_, _<_}
+-- What only contracts of inner functions speak of: how a packet is gathered, from bytes that lie together or across the seam between two
+-- blocks, and the packets of a run joined. Assumes nothing.
+use Prim.Native.Nat.{ℕ, _+_, _<_, _/_, _%_}
 use mathlib.Core.Path.{_≡_}
 use mathlib.Core.List.{List}
 use mathlib.Core.Bool.{true}
 use lib.ListN.{length, getD}
 use Rattle.packets.specs.Packet.{packetByte}
+use Rattle.packets.specs.Walk.{Walk, steps, byteOf}
 
 -- a list as a function of its places
 abbrev pub bytesOf : List ℕ → ℕ → ℕ
@@ -27,3 +28,7 @@ pub record Blended (carry : ℕ) (c : ℕ → ℕ) (x : List ℕ) : Type 0 where
 pub record Window (s : ℕ → ℕ) (q : ℕ) (w : List ℕ) : Type 0 where
   pub long : length w ≡ 42
   pub at : (k : ℕ) → k < 42 → getD w k 0 ≡ s (q + k)
+
+-- byte j of the packets from w on, joined
+unfoldable pub joinedAt : (ℕ → ℕ) → Walk → ℕ → ℕ
+joinedAt s w j = byteOf s (steps s w (j / 42)) (j % 42)

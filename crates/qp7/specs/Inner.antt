@@ -1,10 +1,10 @@
--- How the code's walk stands for what was gathered, and what it leaves in the two tables when it writes as many records and segments as
--- it is told, which may be none. Assumes nothing.
+-- What only contracts of inner functions speak of: how the code's walk stands for what was gathered, and what it leaves in the two tables
+-- when it writes as many records and segments as it is told, which may be none. Assumes nothing.
 use Prim.Native.Nat.{ℕ, _*_, _≤_}
 use mathlib.Core.Path.{_≡_}
 use mathlib.Core.List.{List}
 use lib.ListN.{length}
-use Rattle.tables.specs.Entries.{Fronts}
+use Rattle.tables.specs.Inner.{Fronts}
 use Rattle.refusals.specs.Said.{Said, answers, refusal, onward}
 use Rattle.qp7.specs.declared.Totals.{Totals}
 use Rattle.qp7.specs.declared.Walk.{Walk}

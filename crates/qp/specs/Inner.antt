@@ -1,10 +1,10 @@
--- How the code's numbers stand for what was gathered, and what is left in the table when as many entries are written as the code is told,
--- which may be none. Assumes nothing.
+-- What only contracts of inner functions speak of: how the code's numbers stand for what was gathered, and what is left in the table when as
+-- many entries are written as the code is told, which may be none. Assumes nothing.
 use Prim.Native.Nat.{ℕ, _+_, _*_, _≤_}
 use mathlib.Core.Path.{_≡_}
 use mathlib.Core.List.{List}
 use lib.ListN.{length}
-use Rattle.tables.specs.Entries.{Fronts}
+use Rattle.tables.specs.Inner.{Fronts}
 use Rattle.qp.specs.declared.Segment.{Segment}
 use Rattle.qp.specs.declared.Gathering.{Gathering}
 use Rattle.qp.specs.Segments.{Gathered, closed, moved}
