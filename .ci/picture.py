@@ -7,6 +7,8 @@ done in whole numbers, so that every machine makes the same picture.
 import os
 import sys
 
+from made import kept
+
 GAP, ROW, HEIGHT, LETTER, EDGE = 26, 78, 30, 8, 24
 STYLE = """text { font: 14px sans-serif; text-anchor: middle; fill: #222 }
 .note { text-anchor: start; fill: #555 }
@@ -174,16 +176,7 @@ def main():
     rows, edges = placed(reduced(listed()))
     rows = ordered(rows, edges)
     made = drawn(rows, edges, middles(rows, edges))
-    if sys.argv[2:] == ["write"]:
-        with open(sys.argv[1], "w", encoding="utf-8") as file:
-            file.write(made)
-    else:
-        with open(sys.argv[1], encoding="utf-8") as file:
-            if file.read() != made:
-                print(f"picture: {sys.argv[1]} is not what crates.txt says")
-                return 1
-    print(f"picture: {len(listed())} crates, {crossings(rows, edges)} crossings")
-    return 0
+    return kept("picture", sys.argv[1], made, sys.argv[2:], f"{len(listed())} crates, {crossings(rows, edges)} crossings")
 
 
 if __name__ == "__main__":

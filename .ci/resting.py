@@ -7,6 +7,8 @@ import os
 import re
 import sys
 
+from made import kept
+
 NAMED = re.compile(r"`([^`]+)` in `(crates/[^`]+)`")
 IMPORT = re.compile(r"^(?:ghost )?use Rattle·(\w+)(?:·\w+)?\.(?:(?:specs|proofs)\.)?(specs|proofs)\.([\w.]+)\.\{([^}]*)\}", re.M)
 WORD = re.compile(r"[^\s(){}⌜⌝,;.\[\]]+")
@@ -103,14 +105,7 @@ def main():
         told = "; ".join(f"{', '.join(words)} ({where})" for where, words in sorted(cites.items())) or "none: it is said in numbers and lists alone"
         rows.append(f"| `{name}` in `{path}` | {told} |")
     made = HEAD + "\n".join(rows) + "\n"
-    if sys.argv[3:] == ["write"]:
-        with open(sys.argv[2], "w", encoding="utf-8") as file:
-            file.write(made)
-    elif read(sys.argv[2]) != made:
-        print(f"resting: {sys.argv[2]} is not what the sources say")
-        return 1
-    print(f"resting: {len(named)} declarations")
-    return 0
+    return kept("resting", sys.argv[2], made, sys.argv[3:], f"{len(named)} declarations")
 
 
 if __name__ == "__main__":

@@ -1,0 +1,15 @@
+"""A page that a script makes from the sources: it is written, or held to what was made. For the scripts beside this file."""
+
+
+def kept(part: str, path: str, made: str, words: list[str], found: str) -> int:
+    """Writes the page if the only word is `write`, and otherwise compares it. Prints what was found, or that the page is another; the status."""
+    if words == ["write"]:
+        with open(path, "w", encoding="utf-8") as file:
+            file.write(made)
+    else:
+        with open(path, encoding="utf-8") as file:
+            if file.read() != made:
+                print(f"{part}: {path} is not what the sources say")
+                return 1
+    print(f"{part}: {found}")
+    return 0
