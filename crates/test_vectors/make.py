@@ -451,6 +451,9 @@ DIGITS = "zero one two three four five six seven eight nine".split()
 def head(byte1, count, kind=0, swap=0):
     return bytes([0x0F | swap << 7, byte1, count, 0xFF, kind, 0xFF])
 
+def around(number):
+    return number - 1, number, number + 1
+
 SILENT, GOOD, BAD = head(0, 0), head(3, 2), head(3, 2, 4)  # good and bad for the scan
 
 def name(magic):
@@ -648,15 +651,15 @@ def rooms():
             yield Case(f"{title}, room {how}", magic, headers, kind=kind, spare=spare, step=0)
         for room in (0, 1, 2, 11, 12, 13):
             yield Case(f"{title}, room {room}", magic, headers, kind=kind, room=room, step=512)
-    # the smaller of output and counts decides, and what is left over by 42, 4 and 3 is no room
+    # the smaller of output and counts decides, and what is left over by 42 and by an entry's words is no room
     for title, magic, headers, kind in (("dss", DSS_TWO, [head(3, 12)] * 2, 2), ("sp", DS2_ONE, [head(0, 12)] * 2, 0),
                                         ("lenient end", NONE, [head(0, 40)], 0), ("pieces", NONE, [head(0, 12)] * 3, 3)):
         for out, counts in ((1007, 24), (1008, 24), (1049, 24), (1008, 23), (5000, 23), (1007, 99), (503, 12), (504, 12)):
             yield Case(f"{title}, output {out}, counts {counts}", magic, headers, kind=kind, out=out, counts=counts, step=512)
-    for table in (7, 8, 9, 11, 12, 13, 15):
+    for table in (*around(2 * QP_WORDS), *around(3 * QP_WORDS), 4 * QP_WORDS - 1):
         yield Case(f"qp, table {table}", DS2_ONE, [head(3, 2, 6)] * 3, table=table)
     silent_between = [head(3, 3, 7), SILENT, head(3, 3, 7), SILENT, head(3, 1, 7)]
-    for records, segments in product((6, 7, 8), (6, 8, 9, 10)):
+    for records, segments in product(around(7), (2 * QP7_WORDS, *around(3 * QP7_WORDS))):
         yield Case(f"qpseven, records {records}, segments {segments}", DS2_ONE, silent_between, records=records, segments=segments)
     for magic in (DSS_TWO, DS2_ONE):
         yield Case(f"{name(magic)}, over the largest room", magic, [head(3, 255)] * 17)

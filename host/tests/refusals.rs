@@ -5,7 +5,7 @@ mod common;
 use common::files::{header, recording, Dice};
 use klovdrun::demux::ds2::{self, Ds2QpStreamDemuxer, Ds2SpStreamDemuxer};
 use klovdrun::demux::dss::{self, DssSpStreamDemuxer};
-use klovdrun::{frames, places, tally, Reader, Refusal, StreamPlace, FRAME, LIMIT};
+use klovdrun::{frames, places, tally, Reader, Refusal, StreamPlace, FRAME, LIMIT, QP7_WORDS, QP_WORDS};
 use std::collections::BTreeSet;
 
 /// The number of a refusal and the number beside it.
@@ -15,7 +15,7 @@ fn told<T>(answer: Result<T, Refusal>) -> (u64, u64) {
 
 /// Makes a call with lent bytes and words, and answers its refusal. If it is refused, not one of them may have changed.
 fn unwritten<T>(call: impl FnOnce(&mut [u8], &mut [u8], &mut [u32], &mut [u32]) -> Result<T, Refusal>) -> (u64, u64) {
-    let (mut out, mut counts, mut records, mut segments) = ([0xA5; 420], [0xA5; 10], [0xA5A5; 8], [0xA5A5; 12]);
+    let (mut out, mut counts, mut records, mut segments) = ([0xA5; 420], [0xA5; 10], [0xA5A5; 8], [0xA5A5; 3 * QP_WORDS]);
     let refusal = told(call(&mut out, &mut counts, &mut records, &mut segments));
     let bytes = out.iter().chain(&counts).all(|&byte| byte == 0xA5);
     let words = records.iter().chain(&segments).all(|&word| word == 0xA5A5);
@@ -203,10 +203,10 @@ fn nine_too_small_a_table() {
     let qp = blocks(b"\x01ds2", 1536, &heads(6).repeat(2));
     assert_eq!(whole(&qp)[2], (9, 4));
     let qp7 = blocks(b"\x01ds2", 1536, &heads(7));
-    let mut segments = [0xA5; 5];
+    let mut segments = [0xA5; 2 * QP7_WORDS - 1];
     assert_eq!(told(ds2::demux_ds2_qp7_into(&qp7, &mut [0; 2], &mut segments)), (9, 2));
-    assert_eq!(segments, [0xA5; 5]);
-    assert_eq!(ds2::demux_ds2_qp7_into(&qp7, &mut [0; 2], &mut [0; 6]), Ok((2, 2)));
+    assert!(segments.iter().all(|&word| word == 0xA5));
+    assert_eq!(ds2::demux_ds2_qp7_into(&qp7, &mut [0; 2], &mut [0; 2 * QP7_WORDS]), Ok((2, 2)));
 }
 
 #[test]
