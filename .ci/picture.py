@@ -8,6 +8,7 @@ import os
 import sys
 
 from made import kept
+from sources import crates
 
 GAP, ROW, HEIGHT, LETTER, EDGE = 26, 78, 30, 8, 24
 STYLE = """text { font: 14px sans-serif; text-anchor: middle; fill: #222 }
@@ -21,10 +22,7 @@ rect { stroke-width: 1.3 }
 
 def listed():
     """What each crate of crates.txt rests on, in that order; the kit's libraries left out."""
-    with open("crates.txt", encoding="utf-8") as file:
-        lines = [line.split(":") for line in file if line.strip() and not line.startswith("#")]
-    names = [name for name, _ in lines]
-    return {name: [other for other in rest.split() if other in names] for name, rest in lines}
+    return {name: [other for other in rest if other in crates()] for name, rest in crates().items()}
 
 
 def reduced(rests):

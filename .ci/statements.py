@@ -1,7 +1,7 @@
 """statements.py FILE: holds FILE, docs/STATEMENTS.md, against the tree.
 
-Under each heading that begins with a number, every row of the table names at least one declaration, as `name` in `file`, and each
-stands there: a theorem or definition that is `pub`, or a function that has an `ensures`. Under the last heading every wrong program of
+Whatever it names as `name` in `file` stands there: a theorem or definition that is `pub`, or a function that has an `ensures`. Under each
+heading that begins with a number every row of the table names at least one. Under the last heading every wrong program of
 crates/*/must-fail is named, as `crate/program`, and no other. Prints how many were found, and what was not.
 """
 import glob
@@ -9,22 +9,14 @@ import re
 import sys
 
 import edits
+from sources import NAMED, declared, read
 
-NAMED = re.compile(r"`([^`]+)` in `(crates/[^`]+)`")
 PROGRAM = re.compile(r"`([a-z0-9_]+/[a-z0-9_]+)`")
 
 
-def declared(name: str, path: str) -> bool:
-    try:
-        with open(path, encoding="utf-8") as file:
-            text = file.read()
-    except OSError:
-        return False
-    if path.endswith(".rt"):
-        found = re.search(rf"^ *pub (?:extern \"C\" )?fn {re.escape(name)}\b[^{{]*?\n *(requires|ensures) ", text, re.M)
-        return bool(found and "ensures" in text[found.start():].split("\n{", 1)[0].split("\n    {", 1)[0])
-    marks = r"^ *(?:(?:unfoldable|abbrev) )*pub (?:record |data )?"
-    return bool(re.search(marks + re.escape(name) + r"(?: \{[^}]*\})?(?: :| \()", text, re.M))
+def stands(name: str, path: str) -> bool:
+    one = declared(path).get(name)
+    return bool(one and one.public and (one.kind != "function" or one.clauses("ensures")))
 
 
 def wrong_programs() -> set[str]:
@@ -32,28 +24,21 @@ def wrong_programs() -> set[str]:
     return {f"{path.split('/')[1]}/{program['name']}" for path in paths for program in edits.programs(path)}
 
 
+def rows(section: str) -> list[str]:
+    return [row for row in section.split("\n") if row.startswith("|")][2:]
+
+
 def main() -> int:
-    with open(sys.argv[1], encoding="utf-8") as file:
-        sections = re.split(r"^## ", file.read(), flags=re.M)[1:]
-    found, wrong, named = 0, [], set()
-    for section in sections:
-        rows = [row for row in section.split("\n") if row.startswith("|")][2:]
-        if section[0].isdigit():
-            for row in rows:
-                names = NAMED.findall(row)
-                if not names:
-                    wrong.append(f"a row that names nothing: {row[:60]}")
-                for name, path in names:
-                    if declared(name, path):
-                        found += 1
-                    else:
-                        wrong.append(f"no {name} in {path}")
-        else:
-            named.update(PROGRAM.findall("\n".join(rows)))
-    programs = wrong_programs()
+    text = read(sys.argv[1])
+    sections = re.split(r"^## ", text, flags=re.M)[1:]
+    names = NAMED.findall(text)
+    wrong = [f"no {name} in {path}" for name, path in names if not stands(name, path)]
+    in_rows = [row for section in sections if section[0].isdigit() for row in rows(section)]
+    wrong += [f"a row that names nothing: {row[:60]}" for row in in_rows if not NAMED.search(row)]
+    named, programs = set(PROGRAM.findall("\n".join(rows(sections[-1])))), wrong_programs()
     wrong += [f"a wrong program that is not named: {program}" for program in sorted(programs - named)]
     wrong += [f"no wrong program {program}" for program in sorted(named - programs)]
-    return edits.report("statements", f"{found} declarations and {len(programs)} wrong programs", wrong, bool(found))
+    return edits.report("statements", f"{len(names)} declarations and {len(programs)} wrong programs", wrong, bool(in_rows))
 
 
 if __name__ == "__main__":
