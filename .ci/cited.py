@@ -6,6 +6,7 @@ function's parameters in its contract. Constructors and variants lead to their t
 the function. Names of the kit are not followed. A word that is none of all this is an error, so that no citation is passed over.
 """
 import re
+import sys
 from functools import cache
 from typing import NamedTuple
 
@@ -39,7 +40,7 @@ def in_file(path: str, name: str) -> list[Declaration]:
     """What a name of a file is: a declaration, or those that have a constructor of that name."""
     found = [one for one in declared(path).values() if one.name == name] or [one for one in declared(path).values() if name in one.makers()]
     if not found:
-        raise ValueError(f"no {name} in {path}")
+        sys.exit(f"no {name} in {path}")
     return found
 
 
@@ -55,7 +56,7 @@ def in_module(crate: str, folder: str, module: str, name: str) -> list[Declarati
         for step in reversed(steps):
             if step in declared(source):
                 return [declared(source)[step]]
-    raise ValueError(f"{crate} has no module {module}")
+    sys.exit(f"{crate} has no module {module}")
 
 
 def each_name(names: str) -> list[tuple[str, str]]:
@@ -95,7 +96,7 @@ def resolved(path: str, word: str) -> list[Citation]:
             return [Citation(word, after, kits(after, module))]
     if word in WORDS or NUMBER.fullmatch(word):
         return []
-    raise ValueError(f"{path}: what is {word}?")
+    sys.exit(f"{path}: what is {word}?")
 
 
 def bound_by_group(words: list[str], at: int) -> list[str]:
@@ -193,7 +194,7 @@ def in_types(one: Declaration, text: str) -> list[Citation]:
         if word in types_in(one.path):
             found.append(Citation(word, word, types_in(one.path)[word]))
         elif word not in one.makers():
-            raise ValueError(f"{one.path}: what is {word}?")
+            sys.exit(f"{one.path}: what is {word}?")
     return found
 
 
@@ -201,9 +202,8 @@ def in_rattle(one: Declaration) -> list[Citation]:
     """The types that a function's signature names, or a type's fields, and what a contract cites."""
     if one.kind != "function":
         return in_types(one, one.said())
-    signature = re.split(r"\n *(?:requires|ensures)\b", one.said())[0]
-    bound = set(re.findall(r"(\w+):(?!:)", signature)) | {"self"}
-    found = in_types(one, signature)
+    bound = {*one.parameters(), "self"}
+    found = in_types(one, one.signature())
     for clause in one.clauses("requires") + one.clauses("ensures"):
         found += Walk(one.path, bound | {f"«{name}»" for name in bound}).over(clause).found
     return found
@@ -233,7 +233,7 @@ def closure(ones: list[Declaration]) -> list[Declaration]:
         due += new
     for one in found:
         if one.kind == "theorem" or any(place(each) > place(one) for each in cited(one)):
-            raise ValueError(f"{one.path}: {one.name} is cited and is no definition, or cites what is to be read after it")
+            sys.exit(f"{one.path}: {one.name} is cited and is no definition, or cites what is to be read after it")
     return sorted(found, key=place)
 
 

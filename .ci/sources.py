@@ -7,6 +7,7 @@ signature and contract, of anything else all of it. Rests on the layout that `rt
 import glob
 import os
 import re
+import sys
 from dataclasses import dataclass
 from functools import cache
 
@@ -41,6 +42,13 @@ class Declaration:
 
     def said(self) -> str:
         return "\n".join(self.parts)
+
+    def signature(self) -> str:
+        return re.split(r"\n *(?:requires|ensures)\b", self.said())[0]
+
+    def parameters(self) -> list[str]:
+        """The names of a function's parameters, `self` left out."""
+        return re.findall(r"(\w+):(?!:)", self.signature())
 
     def clauses(self, which: str) -> list[str]:
         """What stands in each `requires` or `ensures` of a function."""
@@ -85,7 +93,7 @@ def those(text: str) -> list[Declaration]:
     """The declarations that a page names, each once."""
     missing = [f"no {name} in {path}" for name, path in named(text) if name not in declared(path)]
     if missing or not named(text):
-        raise ValueError("; ".join(missing) or "nothing is named")
+        sys.exit("; ".join(missing) or "nothing is named")
     return [declared(path)[name] for name, path in named(text)]
 
 
@@ -122,7 +130,7 @@ def definitions(path: str, lines: list[str], at: int, headers: tuple[tuple[int, 
             found += definitions(path, body, number + close + 1 + skipped, (*headers, header))
             current, above = None, []
         elif word == "use" and headers:
-            raise ValueError(f"{path} has an import inside a module, which is not read")
+            sys.exit(f"{path} has an import inside a module, which is not read")
         elif word == "use" or group[0].startswith("pub mod "):
             current, above = None, []
         elif current and word in (current.name, "unfolding", ")"):
@@ -206,7 +214,7 @@ def declared(path: str) -> dict[str, Declaration]:
     found = rattle(path, lines) if path.endswith(".rt") else definitions(path, lines, 1, ())
     by_name = {one.name: one for one in found}
     if len(by_name) < len(found):
-        raise ValueError(f"{path} declares a name twice")
+        sys.exit(f"{path} declares a name twice")
     return by_name
 
 
