@@ -2,15 +2,17 @@
 
 Whatever it names as `name` in `file` stands there: a theorem or definition that is `pub`, or a function that has an `ensures`. Under each
 heading that begins with a number every row of the table names at least one. Under the last heading every wrong program of
-crates/*/must-fail is named, as `crate/program`, and no other. Prints how many were found, and what was not.
+crates/*/must-fail is named, as `crate/program`, and no other. What the page quotes, between fences, is a whole statement
+of those that it names, line breaks, comments and `pub` left aside. Prints how many were found, and what was not.
 """
 import glob
 import re
 import sys
 
 import edits
-from sources import NAMED, declared, read
+from sources import NAMED, Declaration, bare, declared, read
 
+FENCED = re.compile(r"^```\w*\n(.*?)^```$", re.M | re.S)
 PROGRAM = re.compile(r"`([a-z0-9_]+/[a-z0-9_]+)`")
 
 
@@ -24,6 +26,23 @@ def wrong_programs() -> set[str]:
     return {f"{path.split('/')[1]}/{program['name']}" for path in paths for program in edits.programs(path)}
 
 
+def one_line(text: str) -> str:
+    return " ".join(word for word in bare(text).split() if word != "pub")
+
+
+def quotable(one: Declaration) -> set[str]:
+    """A whole statement, alone or under its headers, or a header."""
+    headers = [header for _, header in one.headers]
+    return {one_line("\n".join([*headers[at:], one.said()])) for at in range(len(headers) + 1)} | {one_line(header) for header in headers}
+
+
+def misquoted(text: str) -> list[str]:
+    """The paragraphs of quotes that are not what something says that is named."""
+    said = {each for name, path in NAMED.findall(text) if name in declared(path) for each in quotable(declared(path)[name])}
+    quoted = [one_line(paragraph) for quote in FENCED.findall(text) for paragraph in quote.split("\n\n")]
+    return [quote for quote in quoted if quote not in said]
+
+
 def rows(section: str) -> list[str]:
     return [row for row in section.split("\n") if row.startswith("|")][2:]
 
@@ -33,6 +52,7 @@ def main() -> int:
     sections = re.split(r"^## ", text, flags=re.M)[1:]
     names = NAMED.findall(text)
     wrong = [f"no {name} in {path}" for name, path in names if not stands(name, path)]
+    wrong += [f"a quote that is not in the sources: {quote[-90:]}" for quote in misquoted(text)]
     in_rows = [row for section in sections if section[0].isdigit() for row in rows(section)]
     wrong += [f"a row that names nothing: {row[:60]}" for row in in_rows if not NAMED.search(row)]
     named, programs = set(PROGRAM.findall("\n".join(rows(sections[-1])))), wrong_programs()
