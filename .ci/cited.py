@@ -66,16 +66,19 @@ def each_name(names: str) -> list[tuple[str, str]]:
 
 @cache
 def scope(path: str) -> dict[str, list[Citation]]:
-    """The names that a file has of itself and by imports, with what each cites. An operator is imported with its blanks, and used without."""
-    found: dict[str, list[Citation]] = {}
+    """The names that a file has by imports and of itself, with what each cites. An operator is imported with its blanks, and used without."""
+    found = []
     for module, names, _ in KIT_USE.findall(read(path)):
-        found |= {key: [Citation(key, there, kits(there, module))] for there, here in each_name(names) for key in (here, here.strip("_"))}
+        found += [(key, [Citation(key, there, kits(there, module))]) for there, here in each_name(names) for key in {here, here.strip("_")}]
     for crate, folder, module, names, _ in OWN_USE.findall(read(path)):
-        found |= {here: [Citation(here, there, one) for one in in_module(crate, folder, module, there)] for there, here in each_name(names)}
+        found += [(here, [Citation(here, there, one) for one in in_module(crate, folder, module, there)]) for there, here in each_name(names)]
     if path.endswith(".antt"):
-        own = [name for one in declared(path).values() for name in (*one.makers(), one.name)]
-        found |= {name: [Citation(name, name, one) for one in in_file(path, name)] for name in own}
-    return found
+        own = dict.fromkeys(name for one in declared(path).values() for name in (*one.makers(), one.name))
+        found += [(name, [Citation(name, name, one) for one in in_file(path, name)]) for name in own]
+    by_name = dict(found)
+    if len(by_name) < len(found):
+        sys.exit(f"{path} has a name of two imports, or of one and of its own")
+    return by_name
 
 
 def is_maker(path: str, word: str) -> bool:
