@@ -1,19 +1,19 @@
 -- The ways of a frame's request, and what holds where a frame can be fetched.
 -- Assumes nothing.
-use Prim.Native.Nat.{ℕ, _+_, _*_, _-_, _%_, _≤_, _<_, _^_}
-use mathlib.Core.Path.{_≡_, refl, sym, ap, _∙_}
+use Prim.Native.Nat.{ℕ, _+_, _*_, _-_, _/_, _%_, _≤_, _<_, _^_}
+use mathlib.Core.Path.{_≡_, refl, ap, _∙_}
 use mathlib.Core.List.{List}
-use mathlib.Core.Bool.{Bool, true, false, cond, _&&_}
+use mathlib.Core.Bool.{Bool, true, false, _&&_}
 use native.Mathlib.Nat.{sub-zero}
 use native.Mathlib.Omega.{arith}
-use borrow.Author.Tests.{le-leb, lt-leb, leb-true, lt-ltb, le-ltb}
+use borrow.Author.Tests.{le-leb, lt-leb, leb-true, leb-false}
 use lib.ListN.{length, getD, take, drop}
-use lib.Dec.{leb, ltb}
-use Rattle.tables.specs.Lent.{over}
-use Rattle.tables.proofs.Lent.{over-long}
+use lib.Dec.{leb}
+use Rattle.tables.specs.Lent.{Leaves, over}
+use Rattle.tables.proofs.Lent.{leaves-join, leaves-as, leaves-to, over-long}
 use Rattle.tables.proofs.Parts.{part-is}
 use Rattle.blocks.specs.Places.{fileOf, streamAt}
-use Rattle.blocks.proofs.Places.{stream-in}
+use Rattle.blocks.proofs.Stream.{together}
 use Rattle.refusals.specs.declared.Refusal.{Refusal}
 use Rattle.refusals.specs.Said.{Said, answers, refuses, demand, refusal}
 use Rattle.refusals.proofs.Said.{passed, went-on}
@@ -24,7 +24,7 @@ use Rattle.frames.specs.declared.Fetched.{Fetched}
 use Rattle.frames.specs.declared.Fetched.the-variants.{Refused}
 use Rattle.frames.specs.Fetch.{canFetch, fetchFrom, isInside, inFile, inScratch, standIn, standing, fetchedSays, filledFrom, filled, shownFrom, shown, Fills}
 use Rattle.frames.specs.Inner.{Fetchable}
-use Rattle.tables.proofs.Cases.{by-order, by-test}
+use Rattle.tables.proofs.Cases.{by-test}
 
 -- whether a frame can be fetched, test by test
 module _ (blocks q size room : ℕ) where
@@ -170,20 +170,29 @@ module _ (f : List ℕ) (rec : Recording) (q size : ℕ) (scratch : List ℕ) wh
       let inside : q % 506 + size ≤ 506 = leb-true (q % 506 + size) 506 h in
       omega (arith, c .whole, c .some, c .there)
 
--- where byte k of a frame stands in the file: k on from its first byte, and past the next block's header if it lies beyond its own block
-byte-stands : (a q k : ℕ) → k < 56 → fileOf a q + k + cond (ltb k (506 - q % 506)) 0 6 ≡ fileOf a (q + k)
-byte-stands a q k small =
-    by-order k (506 - q % 506) (λ l. simp (lt-ltb k (506 - q % 506) l) (omega arith)) (λ l. simp (le-ltb k (506 - q % 506) l) (omega arith))
+-- the bytes of the file from a stream place's own on are the stream's as far as its block goes
+run-is : (f : List ℕ) (rec : Recording) (q from k : ℕ) → from ≡ fileOf (rec .start .0) q → q / 506 < rec .blocks → q % 506 + k < 506
+    → getD f (from + k) 0 ≡ streamIn f rec (q + k)
+run-is f rec q from k is there near =
+    ap (λ (i : ℕ). getD f (i + k) 0) is ∙ together f (rec .start .0) (rec .blocks) q k there near
 
--- it is a byte of the file, and the stream's
-module _ (f : List ℕ) (rec : Recording) (q size room from k : ℕ) (c : Fetchable f rec q size room) (is : from ≡ fileOf (rec .start .0) q) (h : k < size) where
-  there : from + k + cond (ltb k (506 - q % 506)) 0 6 ≡ fileOf (rec .start .0) (q + k)
-  there = rw is (byte-stands (rec .start .0) q k (omega (arith, h, c .most)))
+-- a frame that crosses a block: the run to the block's end, and behind it the run from the next block's payload on
+module _ (f : List ℕ) (rec : Recording) (q size room here second : ℕ) (c : Fetchable f rec q size room) (crosses : isInside q size ≡ false)
+    (rest : here ≡ 506 - q % 506) (far : second ≡ fileOf (rec .start .0) (q + here)) where
+  -- the second run ends in the file
+  pub second-ends : second + (size - here) ≤ length f
+  second-ends = omega (arith, leb-false)
 
-  pub byte-in-file : from + k + cond (ltb k (506 - q % 506)) 0 6 < length f
-  byte-in-file = omega (arith, there, c .whole, c .there, h)
-
-  pub byte-is : getD f (from + k + cond (ltb k (506 - q % 506)) 0 6) 0 ≡ streamIn f rec (q + k)
-  byte-is =
-      ap (λ (x : ℕ). getD f x 0) there
-      ∙ sym (stream-in f (rec .start .0) (rec .blocks) (q + k) (omega (arith, h, c .there)))
+  -- the two runs together are the frame
+  pub two-runs : {d e e′ : List ℕ} (first : ℕ) → first ≡ fileOf (rec .start .0) q
+      → Leaves d 0 here (λ k. getD f (first + k) 0) e → Leaves e here (size - here) (λ k. getD f (second + k) 0) e′
+      → Leaves d 0 size (λ k. streamIn f rec (q + k)) e′
+  two-runs {d} {e} {e′} first near w v =
+      let front : 0 + here ≡ here = omega arith in
+      leaves-to (omega (arith, leb-false))
+      (leaves-join d 0 here (size - here) (λ k. streamIn f rec (q + k)) (λ k. getD f (second + k) 0) e e′
+      (leaves-as _ (λ k h. run-is f rec q first k near (omega arith) (omega arith)) w)
+      (rw front v)
+      (λ k h.
+      let on : q + here + k ≡ q + (here + k) = omega arith in
+      run-is f rec (q + here) second k far (omega (arith, leb-false)) (omega arith) ∙ ap (streamIn f rec) on))

@@ -1,7 +1,6 @@
 // Frames of the payload stream: where a block's frames start, the frames of a segment, and a frame's bytes on request.
 // Rests on whole, which says whether the file is taken, and on refusals, blocks and tables.
 use blocks::FilePlace;
-use blocks::HEADER;
 use blocks::PAYLOAD;
 use blocks::StreamPlace;
 use refusals::Refusal;
@@ -9,9 +8,8 @@ use whole::Admission;
 use whole::Recording;
 ghost use mathlib.Core.Path.{_≡_};
 ghost use Prim.Native.Nat.{_+_, _*_, _<_, _≤_, _^_};
-ghost use mathlib.Core.Bool.{cond};
+ghost use mathlib.Core.Bool.{false};
 ghost use lib.ListN.{length};
-ghost use lib.Dec.{ltb};
 ghost use Rattle.tables.specs.Lent.{Leaves};
 ghost use Rattle.blocks.specs.Places.{Whole, fileOf};
 ghost use Rattle.blocks.specs.Headers.{firstOf};
@@ -149,14 +147,7 @@ fn is_inside(place: StreamPlace, size: usize) -> bool
     place.0 % PAYLOAD + size <= PAYLOAD
 }
 
-// The bytes of the next block's header that lie before byte k of a frame that has so many bytes in its own block.
-fn header_before(k: usize, here: usize) -> usize
-    ensures { λ r. ⌜ (r ≡ cond (ltb k here) 0 6) × (r ≤ 6) ⌝ }
-{
-    if k < here { 0 } else { HEADER }
-}
-
-// Copies the bytes of a frame that crosses a block to the scratch's start.
+// Copies the bytes of a frame that crosses a block to the scratch's start, by one run in each of its two blocks.
 fn take_frame(
     file: &[u8],
     recording: Recording,
@@ -164,19 +155,16 @@ fn take_frame(
     size: usize,
     scratch: &mut [u8],
 )
-    requires { ⌜ Fetchable (now file) recording (place .0) size (length (now scratch)) ⌝ }
+    requires { ⌜ Fetchable (now file) recording (place .0) size (length (now scratch)) × (isInside (place .0) size ≡ false) ⌝ }
     ensures { λ _. ⌜ Leaves (now (scratch .entry)) 0 size (λ k. streamIn (now (file .entry)) recording (place .0 + k)) (now (scratch .exit)) ⌝ }
 {
     let start = recording.start;
+    let at = place.0;
+    let here = PAYLOAD - at % PAYLOAD;
     let first = blocks::in_file(start, place);
-    let from = first.0;
-    let here = PAYLOAD - place.0 % PAYLOAD;
-    let mut k = 0;
-    while k < size {
-        let at = from + k + header_before(k, here);
-        scratch[k] = file[at];
-        k += 1;
-    }
+    tables::copy(scratch, 0, file, first.0, here);
+    let second = blocks::in_file(start, StreamPlace(at + here));
+    tables::copy(scratch, here, file, second.0, size - here);
 }
 
 // Where a frame stands that can be fetched.

@@ -16,7 +16,9 @@ is-inside-requires : tie.Need-is-inside-requires
 is-inside-requires c κs = search needs
 
 take-frame-requires : tie.Need-take-frame-requires
-take-frame-requires c κs = search needs
+take-frame-requires c κs =
+    let t = c .before in
+    (search needs, told (t .before .is-inside .ensures) (not-true _ (t .if1 .taken)))
 
 stand-in-requires : tie.Need-stand-in-requires
 stand-in-requires c κs = search needs
