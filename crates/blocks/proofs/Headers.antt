@@ -1,6 +1,6 @@
 -- Laws of header fields: the flag is a bit of its byte, the announced sum grows block by block by 255 at most, and a longer file keeps both.
 -- Assumes nothing.
-use Prim.Native.Nat.{ℕ, zero, suc, _+_, _*_, _/_, _%_, _≤_, _<_}
+use Prim.Native.Nat.{ℕ, zero, suc, _+_, _*_, _-_, _/_, _%_, _≤_, _<_}
 use mathlib.Core.Path.{_≡_, refl, sym, ap, _∙_}
 use mathlib.Core.List.{List, _++_}
 use native.Mathlib.Numerals.{add-one}
@@ -35,11 +35,15 @@ announced-upto f a b (suc n) h =
     by-order n b (λ l. let all : b ≡ suc n = omega arith in rw all (omega arith))
     (λ l. rw (← add-one n) (omega (arith, announced-upto f a b n l, announced-more f a n)))
 
--- a count is a byte
+-- a count is a byte, so each block announces 255 more at most
+pub announced-grows : (f : List ℕ) (a b n : ℕ) → Bytes f → b ≤ n → announcedIn f a n ≤ announcedIn f a b + 255 * (n - b)
+announced-grows f a b zero bytes h = let none : b ≡ 0 = omega arith in rw none (omega arith)
+announced-grows f a b (suc n) bytes h =
+    by-order n b (λ l. let all : b ≡ suc n = omega arith in rw all (omega arith))
+    (λ l. rw (← add-one n) (omega (arith, announced-grows f a b n bytes l, announced-more f a n, bytes (blockAt a n + 2))))
+
 pub announced-most : (f : List ℕ) (a n : ℕ) → Bytes f → announcedIn f a n ≤ 255 * n
-announced-most f a zero bytes = omega (arith, announced-none f a)
-announced-most f a (suc n) bytes =
-    rw (← add-one n) (omega (arith, announced-more f a n, announced-most f a n bytes, bytes (blockAt a n + 2)))
+announced-most f a n bytes = omega (arith, announced-grows f a 0 n bytes (omega arith), announced-none f a)
 
 -- a longer file has the same headers in front, and they announce the same
 pub header-kept : (f p : List ℕ) (a b i : ℕ) → Whole f a (b + 1) → i < 6 → headerByte f a b i ≡ headerByte (f ++ p) a b i

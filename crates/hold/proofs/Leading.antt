@@ -5,7 +5,7 @@ use mathlib.Core.Path.{_≡_, refl, sym, ap, _∙_}
 use mathlib.Core.Bool.{Bool, true, false}
 use native.Mathlib.Nat.{le-of-suc-le-suc, not-suc-le-zero}
 use native.Mathlib.Omega.{arith}
-use Rattle.tables.proofs.Cases.{by-order, by-test}
+use Rattle.tables.proofs.Cases.{by-order, by-test, never}
 use Rattle.hold.specs.Leading.{leading}
 
 -- j is where a test first fails among 0, 1, .., n - 1, or n
@@ -32,10 +32,6 @@ leading-leads such zero = leads-none (λ h. absurd (not-suc-le-zero h))
 leading-leads such (suc n) =
     let rest = leading-leads (λ k. such (suc k)) n in
     by-test (such 0) (λ e. rw e (leads-more e rest)) (λ e. rw e (leads-none (λ h. e)))
-
--- a test that holds does not fail
-pub never : {test : Bool} → test ≡ true → test ≡ false → ⊥
-never {test} p q = let z : _≡_ {A = Bool} true false = sym p ∙ q in let y : _≡_ {A = ℕ} 0 1 = cc in omega arith
 
 -- of two tests, the second holding wherever the first does, the second leads at least as far
 pub leads-further : {such other : ℕ → Bool} {m n j k : ℕ} → m ≤ n → ((i : ℕ) → i < m → such i ≡ true → other i ≡ true)

@@ -7,7 +7,7 @@ use mathlib.Core.Bool.{Bool, true, false}
 use native.Mathlib.Numerals.{add-one}
 use native.Mathlib.Omega.{arith}
 use borrow.Author.Tests.{le-leb, leb-true, leb-false}
-use Rattle.tables.proofs.Cases.{by-order, by-test}
+use Rattle.tables.proofs.Cases.{by-order, by-test, never}
 use Rattle.blocks.specs.Headers.{swapOf, countOf, announcedIn}
 use Rattle.blocks.proofs.Headers.{announced-none, announced-more, announced-upto}
 use Rattle.packets.specs.Packet.{readSize}
@@ -22,7 +22,7 @@ use Rattle.sp.proofs.ReadLists.{packets-announced, dss-stands}
 use Rattle.sp.proofs.Longer.{complete-before}
 use Rattle.hold.specs.Ready.{readingIn, endsAt, isComplete, readIn, front, ready}
 use Rattle.hold.specs.Held.{baseAt}
-use Rattle.hold.proofs.Leading.{Leads, leading-leads, never, leads-only}
+use Rattle.hold.proofs.Leading.{Leads, leading-leads, leads-only}
 
 pub total-is : (dss : Bool) (f : List ℕ) (a n : ℕ) → total (readingIn dss f a n) ≡ announcedIn f a n
 total-is dss f a n = packets-announced dss f a n

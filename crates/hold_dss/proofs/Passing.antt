@@ -8,7 +8,7 @@ use native.Mathlib.Omega.{arith}
 use borrow.Author.Tests.{le-leb, leb-true, eq-eqb, ne-eqb}
 use lib.ListN.{getD}
 use lib.Dec.{eqb, leb}
-use Rattle.tables.proofs.Cases.{by-order, by-equal}
+use Rattle.tables.proofs.Cases.{by-order, by-equal, never}
 use Rattle.tables.proofs.Table.{same-table}
 use Rattle.blocks.specs.Places.{streamAt, blockAt}
 use Rattle.blocks.specs.Headers.{headerByte, swapOf, firstOf, countOf, announcedIn}
@@ -27,7 +27,6 @@ use Rattle.hold.specs.declared.Standing.{Standing}
 use Rattle.hold.specs.Ready.{readingIn, endsAt, readIn, front, ready}
 use Rattle.hold.specs.Held.{heldFrom, baseAt, headersFrom, waitingAt, holdAt}
 use Rattle.hold.specs.Inner.{Bears, PartWritten, brought, Next, Added}
-use Rattle.hold.proofs.Leading.{never}
 use Rattle.hold.proofs.Ready.{front-within, dss-exactly, dss-ready, dss-base}
 use Rattle.hold.proofs.Headers.{dss-waits, none-wait, start-least}
 use Rattle.hold.proofs.Partwise.{onward, onward-is, part-of-walk}

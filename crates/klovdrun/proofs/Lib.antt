@@ -3,3 +3,5 @@ pub mod Storing
 pub mod Refusing
 pub mod Settled
 pub mod Theorems
+pub mod Counted
+pub mod Complete

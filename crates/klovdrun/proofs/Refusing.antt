@@ -1,14 +1,14 @@
--- Whatever an export's wrapped call refuses by has a number from 1 to 14.
+-- Whatever an export's wrapped call refuses by is in the export's list.
 -- Assumes nothing.
 use Prim.Native.Nat.{ℕ, _+_}
+use mathlib.Core.Path.{_≡_, refl}
 use mathlib.Core.List.{List, _++_}
 use mathlib.Core.Bool.{Bool, true, false, not, cond}
-use native.Mathlib.Omega.{arith}
 use lib.ListN.{length}
 use lib.Dec.{eqb, leb, ltb}
 use Rattle.blocks.specs.Places.{limit}
-use Rattle.refusals.specs.Said.{Said, Numbered}
-use Rattle.refusals.proofs.Numbered.{answered, asked, goes-on}
+use Rattle.refusals.specs.Said.{Said, isAmong, Numbered}
+use Rattle.refusals.proofs.Numbered.{answered, asked, goes-on, hasAll, wider}
 use Rattle.detect.specs.declared.Kind.the-variants.{Sp, Qp, Qp7}
 use Rattle.whole.specs.Admissions.{admission, ds2Admission}
 use Rattle.whole.specs.Payload.{placeIn, payloadPlace}
@@ -21,86 +21,84 @@ use Rattle.qp7.specs.Walk.{gatheredFrom, qp7Reading}
 use Rattle.qp7.specs.Outcome.{inRoom as inRecords, answered as records}
 use Rattle.qp7.proofs.Refusing.{gathering-all}
 use Rattle.frames.specs.Fetch.{canFetch, fetchFrom, standing}
-use Rattle.tally.specs.Tallies.{tallied}
-use Rattle.tally.proofs.Refusing.{tallying}
 use Rattle.reader.specs.State.{State, isKind, startOf, owed, fitsBy, headerDone}
 use Rattle.reader.specs.Calls.{openSaid, brings, pieceSaid, inBlock, strictBy, strictSaid, lenientSaid}
+use Rattle.klovdrun.specs.Refusals.{payloadRefusals, dssRefusals, ds2Refusals, qpRefusals, qp7Refusals, fetchRefusals, openRefusals, pieceRefusals, strictRefusals, lenientRefusals}
 
-pub payload-numbered : (f : List ℕ) (block : ℕ) → Numbered 14 (payloadPlace f block)
-unfolding payloadPlace
+pub payload-numbered : (f : List ℕ) (block : ℕ) → Numbered payloadRefusals (payloadPlace f block)
+unfolding payloadPlace isAmong hasAll
 payload-numbered f block =
-    goes-on (admission f true true) (λ rec. placeIn rec block) (admitting f true true (omega arith))
-    (λ rec. asked (ltb block (rec .blocks)) 12 0 (omega arith) (omega arith) (answered _))
+    goes-on (admission f true true) (λ rec. placeIn rec block) (wider refl (admitting f true true))
+    (λ rec. asked (ltb block (rec .blocks)) 12 0 refl (answered _))
 
 -- the whole readings, and their rooms
-pub dss-numbered : (f : List ℕ) → Numbered 14 (dssReading f)
-unfolding dssReading
-dss-numbered f = goes-on (admission f true false) _ (admitting f true false (omega arith)) (λ rec. answered _)
+pub dss-numbered : (f : List ℕ) → Numbered dssRefusals (dssReading f)
+unfolding dssReading isAmong hasAll
+dss-numbered f = goes-on (admission f true false) _ (wider refl (admitting f true false)) (λ rec. answered _)
 
-pub ds2-numbered : (f : List ℕ) → Numbered 14 (ds2Reading f)
-unfolding ds2Reading
-ds2-numbered f = goes-on (ds2Admission f Sp) _ (ds2-admitting f Sp (omega arith)) (λ rec. answered _)
+pub ds2-numbered : (f : List ℕ) → Numbered ds2Refusals (ds2Reading f)
+unfolding ds2Reading isAmong hasAll
+ds2-numbered f = goes-on (ds2Admission f Sp) _ (wider refl (ds2-admitting f Sp)) (λ rec. answered _)
 
-pub packets-numbered : (reading : Said Reading) (room : ℕ) → Numbered 14 reading → Numbered 14 (packets (inRoom reading room))
+pub packets-numbered : {numbers : List ℕ} (reading : Said Reading) (room : ℕ) → isAmong numbers 8 ≡ true → Numbered numbers reading
+    → Numbered numbers (packets (inRoom reading room))
 unfolding inRoom
-packets-numbered reading room is =
-    goes-on _ _ (goes-on reading _ is (λ r. asked (leb (total r) room) 8 (total r) (omega arith) (omega arith) (answered r))) (λ r. answered _)
+packets-numbered reading room eight is =
+    goes-on _ _ (goes-on reading _ is (λ r. asked (leb (total r) room) 8 (total r) eight (answered r))) (λ r. answered _)
 
-pub segments-numbered : (f : List ℕ) (room : ℕ) → Numbered 14 (segments (inSegments (qpReading f) room))
-unfolding inSegments qpReading
+pub segments-numbered : (f : List ℕ) (room : ℕ) → Numbered qpRefusals (segments (inSegments (qpReading f) room))
+unfolding inSegments qpReading isAmong hasAll
 segments-numbered f room =
     goes-on _ _
-    (goes-on _ _ (goes-on (ds2Admission f Qp) _ (ds2-admitting f Qp (omega arith)) (λ rec. answered _))
-    (λ r. asked (leb (length (r .segments)) room) 9 _ (omega arith) (omega arith) (answered r)))
+    (goes-on _ _ (goes-on (ds2Admission f Qp) _ (wider refl (ds2-admitting f Qp)) (λ rec. answered _))
+    (λ r. asked (leb (length (r .segments)) room) 9 _ refl (answered r)))
     (λ r. answered _)
 
-pub records-numbered : (f : List ℕ) (forRecords forSegments : ℕ) → Numbered 14 (records (inRecords (qp7Reading f) forRecords forSegments))
-unfolding inRecords qp7Reading
+pub records-numbered : (f : List ℕ) (forRecords forSegments : ℕ) → Numbered qp7Refusals (records (inRecords (qp7Reading f) forRecords forSegments))
+unfolding inRecords qp7Reading isAmong hasAll
 records-numbered f forRecords forSegments =
     goes-on _ _
-    (goes-on _ _ (goes-on (ds2Admission f Qp7) (gatheredFrom f) (ds2-admitting f Qp7 (omega arith)) (gathering-all (omega arith) f))
+    (goes-on _ _ (goes-on (ds2Admission f Qp7) (gatheredFrom f) (wider refl (ds2-admitting f Qp7)) (λ rec. wider refl (gathering-all f rec)))
     (λ g.
-    asked (leb (length (g .records)) forRecords) 8 _ (omega arith) (omega arith)
-    (asked (leb (length (g .closed)) forSegments) 9 _ (omega arith) (omega arith) (answered g))))
+    asked (leb (length (g .records)) forRecords) 8 _ refl
+    (asked (leb (length (g .closed)) forSegments) 9 _ refl (answered g))))
     (λ g. answered _)
 
-pub fetch-numbered : (f : List ℕ) (q size room : ℕ) → Numbered 14 (standing (fetchFrom f q size room) q size)
-unfolding fetchFrom standing
+pub fetch-numbered : (f : List ℕ) (q size room : ℕ) → Numbered fetchRefusals (standing (fetchFrom f q size room) q size)
+unfolding fetchFrom standing isAmong hasAll
 fetch-numbered f q size room =
     goes-on _ _
-    (goes-on (admission f false true) _ (admitting f false true (omega arith))
-    (λ rec. asked (canFetch (rec .blocks) q size room) 12 0 (omega arith) (omega arith) (answered rec)))
+    (goes-on (admission f false true) _ (wider refl (admitting f false true))
+    (λ rec. asked (canFetch (rec .blocks) q size room) 12 0 refl (answered rec)))
     (λ rec. answered _)
 
-pub tally-numbered : (f : List ℕ) → Numbered 14 (tallied f)
-tally-numbered f why e = let p = tallying f why e in (p .0, omega (arith, p .1))
-
 -- a reader's calls, at any state
-pub open-numbered : (kind : ℕ) → Numbered 14 (openSaid kind)
-unfolding openSaid
-open-numbered kind = asked (isKind kind) 10 kind (omega arith) (omega arith) (answered 0)
+pub open-numbered : (kind : ℕ) → Numbered openRefusals (openSaid kind)
+unfolding openSaid isAmong
+open-numbered kind = asked (isKind kind) 10 kind refl (answered 0)
 
-pub piece-numbered : (s : State) (piece : List ℕ) (room : ℕ) → Numbered 14 (pieceSaid s piece room)
-unfolding pieceSaid
+pub piece-numbered : (s : State) (piece : List ℕ) (room : ℕ) → Numbered pieceRefusals (pieceSaid s piece room)
+unfolding pieceSaid isAmong
 piece-numbered s piece room =
-    asked (eqb (s .phase) 0) 6 0 (omega arith) (omega arith)
-    (asked (leb (length (s .bytes) + length piece) limit) 2 limit (omega arith) (omega arith)
-    (asked (fitsBy (s .kind) (s .bytes ++ piece)) 7 12288 (omega arith) (omega arith)
-    (asked (leb (brings s piece) room) 8 _ (omega arith) (omega arith) (answered _))))
+    asked (eqb (s .phase) 0) 6 0 refl
+    (asked (leb (length (s .bytes) + length piece) limit) 2 limit refl
+    (asked (fitsBy (s .kind) (s .bytes ++ piece)) 7 12288 refl
+    (asked (leb (brings s piece) room) 8 _ refl (answered _))))
 
-either : {most : ℕ} (test : Bool) {one other : Said ℕ} → Numbered most one → Numbered most other → Numbered most (cond test one other)
+either : {numbers : List ℕ} (test : Bool) {one other : Said ℕ} → Numbered numbers one → Numbered numbers other
+    → Numbered numbers (cond test one other)
 either true is else = is
 either false is else = else
 
-pub strict-numbered : (s : State) → Numbered 14 (strictSaid s)
-unfolding strictBy
+pub strict-numbered : (s : State) → Numbered strictRefusals (strictSaid s)
+unfolding strictBy isAmong
 strict-numbered s =
-    asked (not (eqb (s .phase) 1)) 6 0 (omega arith) (omega arith)
+    asked (not (eqb (s .phase) 1)) 6 0 refl
     (either (eqb (s .phase) 2) (answered 0)
-    (asked (headerDone s) 3 _ (omega arith) (omega arith)
-    (asked (eqb (inBlock (startOf (s .kind)) (length (s .bytes))) 0) 13 _ (omega arith) (omega arith)
-    (asked (eqb (owed s) 0) 14 _ (omega arith) (omega arith) (answered 0)))))
+    (asked (headerDone s) 3 _ refl
+    (asked (eqb (inBlock (startOf (s .kind)) (length (s .bytes))) 0) 13 _ refl
+    (asked (eqb (owed s) 0) 14 _ refl (answered 0)))))
 
-pub lenient-numbered : (s : State) (room : ℕ) → Numbered 14 (lenientSaid s room)
-unfolding lenientSaid
-lenient-numbered s room = asked (headerDone s) 3 _ (omega arith) (omega arith) (answered _)
+pub lenient-numbered : (s : State) (room : ℕ) → Numbered lenientRefusals (lenientSaid s room)
+unfolding lenientSaid isAmong
+lenient-numbered s room = asked (headerDone s) 3 _ refl (answered _)

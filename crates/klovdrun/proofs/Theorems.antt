@@ -1,14 +1,18 @@
--- The theorems about the boundary: an answer's first number tells whether the call answered or refused, and a refused call has changed
+-- The theorems about the boundary: an answer's numbers tell whether the call answered or refused, and what, and a refused call has changed
 -- nothing. Assumes nothing.
 use Prim.Native.Nat.{ℕ, _/_, _<_}
-use mathlib.Core.Path.{_≡_, refl, ap, _∙_}
+use mathlib.Core.Path.{_≡_, refl, sym, ap, _∙_, subst}
 use mathlib.Core.List.{List}
+use mathlib.Core.Bool.{true, false}
 use native.Mathlib.Omega.{arith}
 use lib.ListN.{length}
-use Rattle.refusals.specs.Said.{Said, answers, refusal, Numbered}
+use Rattle.tables.proofs.Cases.{never}
+use Rattle.refusals.specs.declared.Refusal.{Refusal}
+use Rattle.refusals.specs.Said.{Said, answers, refusal, isAmong, Numbered}
 use Rattle.whole.specs.Payload.{payloadPlace}
-use Rattle.sp.specs.Readings.{Reading}
-use Rattle.sp.specs.Outcome.{roomIn, inRoom, answered as packets}
+use Rattle.sp.specs.Readings.{Reading, dssReading, ds2Reading}
+use Rattle.sp.specs.declared.Demuxed.{Demuxed}
+use Rattle.sp.specs.Outcome.{roomIn, inRoom, answered as packets, demuxedSays}
 use Rattle.sp.proofs.Theorems.{refused-changes-nothing}
 use Rattle.qp.specs.Segments.{qpReading}
 use Rattle.qp.specs.Outcome.{width as segmentWidth, inTable, answered as segments}
@@ -19,71 +23,103 @@ use Rattle.qp7.proofs.Theorems.{refused-changes-nothing as qp7-refused}
 use Rattle.frames.specs.Fetch.{fetchFrom, standing}
 use Rattle.frames.proofs.Theorems.{refused-fill-changes-nothing}
 use Rattle.tally.specs.declared.Figures.{Figures}
-use Rattle.tally.specs.Tallies.{tallied}
+use Rattle.tally.specs.Tallies.{tallied, tallyRefusals}
+use Rattle.tally.proofs.Theorems.{refused-by}
 use Rattle.reader.specs.declared.Reader.{Reader}
-use Rattle.reader.specs.State.{Reached}
-use Rattle.reader.specs.Calls.{openSaid, pieceSaid, strictSaid, lenientSaid}
-use Rattle.reader.specs.History.{PieceCall, StrictCall, LenientCall}
+use Rattle.reader.specs.State.{State, owed, Reached}
+use Rattle.reader.specs.Calls.{openSaid, pieceSaid, afterPiece, strictSaid, afterStrict, lenientSaid, afterLenient, Steps}
+use Rattle.reader.specs.History.{PieceCall, StrictCall, LenientCall, OwedCall}
 use Rattle.reader.proofs.Laws.{at-state}
 use Rattle.reader.proofs.Total.{refused-piece-keeps, refused-strict-keeps, refused-lenient-keeps}
 use Rattle.numbers.specs.declared.Answer.{Answer}
 use Rattle.klovdrun.specs.declared.Opened.{Opened}
 use Rattle.numbers.specs.declared.Tallied.{Tallied}
-use Rattle.numbers.specs.Numbers.{four, numbersOr, oneNumber, qpNumbers, qp7Numbers, standNumbers, owingNumbers, tallyNumbers}
-use Rattle.klovdrun.specs.Wrapped.{SpCarries, QpCarries, Qp7Carries, FillCarries, OpenCarries, Advances, Tells}
-use Rattle.klovdrun.proofs.Refusing.{payload-numbered, packets-numbered, segments-numbered, records-numbered, fetch-numbered, tally-numbered, open-numbered, piece-numbered, strict-numbered, lenient-numbered}
+use Rattle.numbers.specs.Numbers.{four, numbersOr, oneNumber, qpNumbers, qp7Numbers, whereNumber, placeNumber, standNumbers, owingNumbers, tallyNumbers}
+use Rattle.klovdrun.specs.Wrapped.{SpCarries, QpCarries, Qp7Carries, FillCarries, stepTo, OpenCarries, Advances, Tells}
+use Rattle.klovdrun.specs.Refusals.{payloadRefusals, dssRefusals, ds2Refusals, qpRefusals, qp7Refusals, fetchRefusals, openRefusals, pieceRefusals, strictRefusals, lenientRefusals}
+use Rattle.klovdrun.proofs.Refusing.{payload-numbered, dss-numbered, ds2-numbered, packets-numbered, segments-numbered, records-numbered, fetch-numbered, open-numbered, piece-numbered, strict-numbered, lenient-numbered}
 
-tells : {A : Type 0} (first second : A → ℕ) (other : ℕ) (said : Said A) → Numbered 14 said → {r : Answer} → r ≡ numbersOr first second other said
-    → Tells said r
-tells first second other (answers a) is {r} e =
+tells : {A : Type 0} {numbers : List ℕ} (first second : A → ℕ) (other : ℕ) (said : Said A) → isAmong numbers 0 ≡ false → Numbered numbers said
+    → {r : Answer} → r ≡ numbersOr first second other said → Tells numbers first second other said r
+tells first second other (answers a) above-zero is {r} e =
     let none : r .refusal ≡ 0 = ap (λ (x : Answer). x .refusal) e in
-    record { zero = λ z. (a, refl); above = λ some. absurd (omega (arith, none)); most = omega (arith, none) }
-tells first second other (refusal why) is {r} e =
-    let number : r .refusal ≡ why .number = ap (λ (x : Answer). x .refusal) e in
-    let beside : r .beside ≡ why .beside = ap (λ (x : Answer). x .beside) e in
-    let none : r .first ≡ 0 = ap (λ (x : Answer). x .first) e in
-    let range = is why refl in
     record {
-      zero = λ z. absurd (omega (arith, range .0, number));
-      above = λ some. (why, refl, number, beside, none);
-      most = omega (arith, range .1, number);
+      zero = λ z. (a, refl, ap (λ (x : Answer). x .beside) e, ap (λ (x : Answer). x .first) e, ap (λ (x : Answer). x .second) e);
+      above = λ some. absurd (omega (arith, none));
+      listed = λ some. absurd (omega (arith, none));
+    }
+tells {numbers = numbers} first second other (refusal why) above-zero is {r} e =
+    let number : r .refusal ≡ why .number = ap (λ (x : Answer). x .refusal) e in
+    let there = subst (λ (n : ℕ). isAmong numbers n ≡ true) (sym number) (is .among why refl) in
+    record {
+      zero = λ z. absurd (never (subst (λ (n : ℕ). isAmong numbers n ≡ true) z there) above-zero);
+      above = λ some.
+          (why, refl, number, ap (λ (x : Answer). x .beside) e, ap (λ (x : Answer). x .first) e, ap (λ (x : Answer). x .second) e);
+      listed = λ some. there;
     }
 
+-- a number above 0 is a refusal's
+refused-of : {A : Type 0} (first second : A → ℕ) (other : ℕ) (said : Said A) {r : Answer} → r ≡ numbersOr first second other said
+    → 0 < r .refusal → (why : Refusal) × (said ≡ refusal why)
+refused-of first second other (answers a) {r} e some =
+    let none : r .refusal ≡ 0 = ap (λ (x : Answer). x .refusal) e in
+    absurd (omega (arith, none))
+refused-of first second other (refusal why) e some = (why, refl)
+
 -- `klov_payload`, `klov_show`
-pub klov-payload-tells : (f : List ℕ) (block : ℕ) {r : Answer} → r ≡ oneNumber (payloadPlace f block) → Tells (payloadPlace f block) r
-klov-payload-tells f block e = tells (λ n. n) (λ n. 0) 0 (payloadPlace f block) (payload-numbered f block) e
+pub klov-payload-tells : (f : List ℕ) (block : ℕ) {r : Answer} → r ≡ oneNumber (payloadPlace f block)
+    → Tells payloadRefusals (λ n. n) (λ n. 0) 0 (payloadPlace f block) r
+unfolding isAmong
+klov-payload-tells f block e = tells (λ n. n) (λ n. 0) 0 (payloadPlace f block) refl (payload-numbered f block) e
 
 pub klov-show-tells : (f : List ℕ) (q size room : ℕ) {r : Answer} → r ≡ standNumbers (standing (fetchFrom f q size room) q size)
-    → Tells (standing (fetchFrom f q size room) q size) r
-klov-show-tells f q size room e = tells _ _ 0 (standing (fetchFrom f q size room) q size) (fetch-numbered f q size room) e
+    → Tells fetchRefusals whereNumber placeNumber 0 (standing (fetchFrom f q size room) q size) r
+unfolding isAmong
+klov-show-tells f q size room e = tells whereNumber placeNumber 0 (standing (fetchFrom f q size room) q size) refl (fetch-numbered f q size room) e
 
--- `klov_tally`: the same of its nine numbers
+-- `klov_tally`: the same of its nine numbers, announced and handed out among them
 pub klov-tally-tells : (f : List ℕ) {r : Tallied} → r ≡ tallyNumbers (tallied f)
-    → Tells (tallied f) (record { refusal = r .refusal; beside = r .beside; first = 0; second = 0 })
-klov-tally-tells f {r} e = by (tallied f) (tally-numbered f) e
+    → Tells tallyRefusals (λ figures. figures .announced) (λ figures. figures .out .many) 0 (tallied f)
+    (four (r .refusal) (r .beside) (r .announced) (r .handed))
+unfolding isAmong
+klov-tally-tells f {r} e = tells (λ figures. figures .announced) (λ figures. figures .out .many) 0 (tallied f) refl (refused-by f) (as-four (tallied f) e)
   where
-    by : (said : Said Figures) → Numbered 14 said → r ≡ tallyNumbers said
-        → Tells said (record { refusal = r .refusal; beside = r .beside; first = 0; second = 0 })
-    by (answers figures) is p = tells (λ a. 0) (λ a. 0) 0 (answers figures) is (ap (λ (x : Tallied). four (x .refusal) (x .beside) 0 0) p)
-    by (refusal why) is p = tells (λ a. 0) (λ a. 0) 0 (refusal why) is (ap (λ (x : Tallied). four (x .refusal) (x .beside) 0 0) p)
+    as-four : (said : Said Figures) → r ≡ tallyNumbers said → four (r .refusal) (r .beside) (r .announced) (r .handed)
+        ≡ numbersOr (λ figures. figures .announced) (λ figures. figures .out .many) 0 said
+    as-four (answers figures) p = ap (λ (x : Tallied). four (x .refusal) (x .beside) (x .announced) (x .handed)) p
+    as-four (refusal why) p = ap (λ (x : Tallied). four (x .refusal) (x .beside) (x .announced) (x .handed)) p
 
--- `klov_demux_dss` and `klov_demux_ds2_sp`, whose readings refuse by such numbers (`dss-numbered`, `ds2-numbered`)
-module _ {reading : Said Reading} {out out′ counts counts′ : List ℕ} {r : Answer} (is : Numbered 14 reading) (c : SpCarries reading out out′ counts counts′ r) where
-  pub sp-tells : Tells (packets (inRoom reading (roomIn out counts))) r
-  sp-tells =
-      tells (λ n. n) (λ n. 0) 0 (packets (inRoom reading (roomIn out counts))) (packets-numbered reading (roomIn out counts) is)
+-- `klov_demux_dss` and `klov_demux_ds2_sp`
+module _ {reading : Said Reading} {out out′ counts counts′ : List ℕ} {r : Answer} (c : SpCarries reading out out′ counts counts′ r) where
+  sp-tells : (numbers : List ℕ) → isAmong numbers 0 ≡ false → isAmong numbers 8 ≡ true → Numbered numbers reading
+      → Tells numbers (λ n. n) (λ n. 0) 0 (packets (inRoom reading (roomIn out counts))) r
+  sp-tells numbers above-zero eight is =
+      tells (λ n. n) (λ n. 0) 0 (packets (inRoom reading (roomIn out counts))) above-zero (packets-numbered reading (roomIn out counts) eight is)
       (c .numbers-are ∙ ap oneNumber (c .comes .answer-is))
 
   pub sp-refused-changes-nothing : 0 < r .refusal → (out′ ≡ out) × (counts′ ≡ counts)
   sp-refused-changes-nothing some =
-      let why = sp-tells .above some in
-      refused-changes-nothing reading out out′ counts counts′ (c .answer) (c .comes) (why .0) (c .comes .answer-is ∙ why .1)
+      let why = refused-of (λ n. n) (λ n. 0) 0 (demuxedSays (c .answer)) (c .numbers-are) some in
+      refused-changes-nothing reading out out′ counts counts′ (c .answer) (c .comes) (why .0) (why .1)
+
+module _ (f : List ℕ) {out out′ counts counts′ : List ℕ} {r : Answer} where
+  pub dss-tells : SpCarries (dssReading f) out out′ counts counts′ r
+      → Tells dssRefusals (λ n. n) (λ n. 0) 0 (packets (inRoom (dssReading f) (roomIn out counts))) r
+  unfolding isAmong
+  dss-tells c = sp-tells c dssRefusals refl refl (dss-numbered f)
+
+  pub ds2-tells : SpCarries (ds2Reading f) out out′ counts counts′ r
+      → Tells ds2Refusals (λ n. n) (λ n. 0) 0 (packets (inRoom (ds2Reading f) (roomIn out counts))) r
+  unfolding isAmong
+  ds2-tells c = sp-tells c ds2Refusals refl refl (ds2-numbered f)
 
 -- `klov_demux_ds2_qp`
 module _ (f : List ℕ) {table table′ : List ℕ} {r : Answer} (c : QpCarries (qpReading f) table table′ r) where
-  pub qp-tells : Tells (segments (inTable (qpReading f) table)) r
+  pub qp-tells : Tells qpRefusals (λ totals. totals .segments) (λ totals. totals .announced) 0 (segments (inTable (qpReading f) table)) r
+  unfolding isAmong
   qp-tells =
-      tells _ _ 0 (segments (inTable (qpReading f) table)) (segments-numbered f (length table / segmentWidth)) (c .numbers-are ∙ ap qpNumbers (c .comes .answer-is))
+      tells _ _ 0 (segments (inTable (qpReading f) table)) refl (segments-numbered f (length table / segmentWidth))
+      (c .numbers-are ∙ ap qpNumbers (c .comes .answer-is))
 
   pub qp-refused-changes-nothing : 0 < r .refusal → table′ ≡ table
   qp-refused-changes-nothing some =
@@ -92,9 +128,10 @@ module _ (f : List ℕ) {table table′ : List ℕ} {r : Answer} (c : QpCarries 
 
 -- `klov_demux_ds2_qp7`
 module _ (f : List ℕ) {table table′ entries entries′ : List ℕ} {r : Answer} (c : Qp7Carries (qp7Reading f) table table′ entries entries′ r) where
-  pub qp7-tells : Tells (records (inTables (qp7Reading f) table entries)) r
+  pub qp7-tells : Tells qp7Refusals (λ totals. totals .records) (λ totals. totals .segments) 0 (records (inTables (qp7Reading f) table entries)) r
+  unfolding isAmong
   qp7-tells =
-      tells _ _ 0 (records (inTables (qp7Reading f) table entries)) (records-numbered f (length table) (length entries / entryWidth))
+      tells _ _ 0 (records (inTables (qp7Reading f) table entries)) refl (records-numbered f (length table) (length entries / entryWidth))
       (c .numbers-are ∙ ap qp7Numbers (c .comes .answer-is))
 
   pub qp7-refused-changes-nothing : 0 < r .refusal → (table′ ≡ table) × (entries′ ≡ entries)
@@ -112,23 +149,39 @@ module _ {f scratch scratch′ : List ℕ} {q size : ℕ} {r : Answer} (c : Fill
       let why = klov-show-tells f q size (length scratch) fetch-shows .above some in
       refused-fill-changes-nothing f q size scratch scratch′ (c .answer) (c .comes) (why .0) (c .comes .answer-is ∙ why .1)
 
--- `klov_open`
-pub open-tells : (kind : ℕ) {r : Opened} → OpenCarries kind r → Tells (openSaid kind) (r .answer)
-open-tells kind c = tells _ _ 0 (openSaid kind) (open-numbered kind) (c .numbers-are ∙ ap oneNumber (c .comes .answer-is))
+-- `klov_open`: a fresh reader owes nothing
+pub open-tells : (kind : ℕ) {r : Opened} → OpenCarries kind r → Tells openRefusals (λ n. n) (λ n. 0) 0 (openSaid kind) (r .answer)
+unfolding isAmong
+open-tells kind c = tells (λ n. n) (λ n. 0) 0 (openSaid kind) refl (open-numbered kind) (c .numbers-are ∙ ap oneNumber (c .comes .answer-is))
 
--- what a reader's call says, and the frames owed
-advanced-tells : (said : Said ℕ) → Numbered 14 said → {was : Said ℕ} → was ≡ said → {r : Answer} → r ≡ owingNumbers (r .second) was → Tells said r
-advanced-tells said is e {r} p = tells (λ n. n) (λ n. r .second) (r .second) said is (p ∙ ap (owingNumbers (r .second)) e)
+-- what a reader's call says, and the frames owed afterwards
+module _ (s : State) (after : Said ℕ → State) (keeps : (why : Refusal) → after (refusal why) ≡ s) where
+  owing-by : (said : Said ℕ) → owingNumbers (owed (after said)) said ≡ numbersOr (λ n. n) (λ n. owed (after (answers n))) (owed s) said
+  owing-by (answers n) = refl
+  owing-by (refusal why) = ap (λ (s : State). owingNumbers (owed s) (refusal why)) (keeps why)
 
--- A reader that is advanced where it stands: its numbers tell what the call said, and a refused call has stored it as it was and has written
--- nothing.
-module _ {reader stored : Reader} {r : Answer} (known : Reached reader) where
+  advanced-tells : {numbers : List ℕ} (said : Said ℕ) → isAmong numbers 0 ≡ false → Numbered numbers said → {stored : Reader} {answer : Demuxed}
+      → Steps said (after said) (stepTo stored answer) → {r : Answer} → r ≡ owingNumbers (r .second) (demuxedSays answer) → OwedCall stored (r .second)
+      → Tells numbers (λ n. n) (λ n. owed (after (answers n))) (owed s) said r
+  advanced-tells said above-zero is step {r} e owes =
+      let second : r .second ≡ owed (after said) = owes (after said) (step .reader-is) (step .sound) in
+      tells (λ n. n) (λ n. owed (after (answers n))) (owed s) said above-zero is
+      (e ∙ ap (owingNumbers (r .second)) (step .answer-is) ∙ ap (λ (m : ℕ). owingNumbers m said) second ∙ owing-by said)
+
+-- A reader that is advanced where it stands: its numbers tell what the call said and what is owed afterwards, and a refused call has stored it
+-- as it was and has written nothing.
+module _ {reader : Reader} (known : Reached reader) where
+  abbrev s : State
+  s = known .state
+
   -- `klov_piece`
-  module _ {piece out out′ counts counts′ : List ℕ} (c : Advances (PieceCall reader piece out out′ counts counts′) stored r) where
-    pub piece-tells : Tells (pieceSaid (known .state) piece (roomIn out counts)) r
+  module _ {stored : Reader} {r : Answer} {piece out out′ counts counts′ : List ℕ}
+      (c : Advances (PieceCall reader piece out out′ counts counts′) stored r) where
+    pub piece-tells : Tells pieceRefusals (λ n. n) (λ n. owed (afterPiece s piece (answers n))) (owed s) (pieceSaid s piece (roomIn out counts)) r
+    unfolding isAmong
     piece-tells =
-        advanced-tells (pieceSaid (known .state) piece (roomIn out counts)) (piece-numbered (known .state) piece (roomIn out counts))
-        (at-state known (c .carries .comes) .steps .answer-is) (c .carries .numbers-are)
+        advanced-tells s (afterPiece s piece) (λ why. refl) (pieceSaid s piece (roomIn out counts)) refl (piece-numbered s piece (roomIn out counts))
+        (at-state known (c .carries .comes) .steps) (c .carries .numbers-are) (c .owed-is)
 
     pub piece-refused-changes-nothing : 0 < r .refusal → (stored ≡ reader) × (out′ ≡ out) × (counts′ ≡ counts)
     piece-refused-changes-nothing some =
@@ -136,11 +189,12 @@ module _ {reader stored : Reader} {r : Answer} (known : Reached reader) where
         refused-piece-keeps known (c .carries .comes) (why .0) (at-state known (c .carries .comes) .steps .answer-is ∙ why .1)
 
   -- `klov_strict_end`
-  module _ (c : Advances (StrictCall reader) stored r) where
-    pub strict-end-tells : Tells (strictSaid (known .state)) r
+  module _ {stored : Reader} {r : Answer} (c : Advances (StrictCall reader) stored r) where
+    pub strict-end-tells : Tells strictRefusals (λ n. n) (λ n. owed (afterStrict s (answers n))) (owed s) (strictSaid s) r
+    unfolding isAmong
     strict-end-tells =
-        advanced-tells (strictSaid (known .state)) (strict-numbered (known .state)) (at-state known (c .carries .comes) .answer-is)
-        (c .carries .numbers-are)
+        advanced-tells s (afterStrict s) (λ why. refl) (strictSaid s) refl (strict-numbered s) (at-state known (c .carries .comes))
+        (c .carries .numbers-are) (c .owed-is)
 
     pub strict-end-refused-changes-nothing : 0 < r .refusal → stored ≡ reader
     strict-end-refused-changes-nothing some =
@@ -148,11 +202,13 @@ module _ {reader stored : Reader} {r : Answer} (known : Reached reader) where
         refused-strict-keeps known (c .carries .comes) (why .0) (at-state known (c .carries .comes) .answer-is ∙ why .1)
 
   -- `klov_lenient_end`
-  module _ {out out′ counts counts′ : List ℕ} (c : Advances (LenientCall reader out out′ counts counts′) stored r) where
-    pub lenient-end-tells : Tells (lenientSaid (known .state) (roomIn out counts)) r
+  module _ {stored : Reader} {r : Answer} {out out′ counts counts′ : List ℕ}
+      (c : Advances (LenientCall reader out out′ counts counts′) stored r) where
+    pub lenient-end-tells : Tells lenientRefusals (λ n. n) (λ n. owed (afterLenient s (answers n))) (owed s) (lenientSaid s (roomIn out counts)) r
+    unfolding isAmong
     lenient-end-tells =
-        advanced-tells (lenientSaid (known .state) (roomIn out counts)) (lenient-numbered (known .state) (roomIn out counts))
-        (at-state known (c .carries .comes) .steps .answer-is) (c .carries .numbers-are)
+        advanced-tells s (afterLenient s) (λ why. refl) (lenientSaid s (roomIn out counts)) refl (lenient-numbered s (roomIn out counts))
+        (at-state known (c .carries .comes) .steps) (c .carries .numbers-are) (c .owed-is)
 
     pub lenient-end-refused-changes-nothing : 0 < r .refusal → (stored ≡ reader) × (out′ ≡ out) × (counts′ ≡ counts)
     lenient-end-refused-changes-nothing some =

@@ -1,2 +1,4 @@
 -- The definitions of this crate, a file for each idea. They rest on those of the crates below.
 pub mod Wrapped
+pub mod Refusals
+pub mod Hosted

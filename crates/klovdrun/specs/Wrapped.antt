@@ -1,10 +1,11 @@
 -- What an export promises that wraps a call and lends it memory: the wrapped call's own outcome, of which the export hands over the
 -- numbers; and when numbers tell what was said. Assumes nothing.
-use Prim.Native.Nat.{ℕ, _≤_, _<_}
+use Prim.Native.Nat.{ℕ, _<_}
 use mathlib.Core.Path.{_≡_}
 use mathlib.Core.List.{List}
+use mathlib.Core.Bool.{true}
 use Rattle.refusals.specs.declared.Refusal.{Refusal}
-use Rattle.refusals.specs.Said.{Said, answers, refusal}
+use Rattle.refusals.specs.Said.{Said, answers, refusal, isAmong}
 use Rattle.sp.specs.declared.Demuxed.{Demuxed}
 use Rattle.sp.specs.Readings.{Reading}
 use Rattle.sp.specs.Outcome.{Demuxes, demuxedSays}
@@ -57,9 +58,10 @@ pub record Advances (call : Step → Type 0) (stored : Reader) (r : Answer) : Ty
   pub carries : Carries (λ answer. call (stepTo stored answer)) (λ answer. owingNumbers (r .second) (demuxedSays answer)) r
   pub owed-is : OwedCall stored (r .second)
 
--- r tells what was said: with refusal 0 the call answered; with another it refused by that number, which is at most 14, with that number
--- beside it, and first is 0
-pub record Tells {A : Type 0} (said : Said A) (r : Answer) : Type 0 where
-  pub zero : r .refusal ≡ 0 → (a : A) × (said ≡ answers a)
-  pub above : 0 < r .refusal → (why : Refusal) × (said ≡ refusal why) × (r .refusal ≡ why .number) × (r .beside ≡ why .beside) × (r .first ≡ 0)
-  pub most : r .refusal ≤ 14
+-- r tells what was said. With refusal 0 the call answered, and first and second are of its answer; with another it refused by that number,
+-- which is in the call's list, with that number beside it, first is 0, and second is this other number
+pub record Tells {A : Type 0} (numbers : List ℕ) (first second : A → ℕ) (other : ℕ) (said : Said A) (r : Answer) : Type 0 where
+  pub zero : r .refusal ≡ 0 → (a : A) × (said ≡ answers a) × (r .beside ≡ 0) × (r .first ≡ first a) × (r .second ≡ second a)
+  pub above : 0 < r .refusal
+      → (why : Refusal) × (said ≡ refusal why) × (r .refusal ≡ why .number) × (r .beside ≡ why .beside) × (r .first ≡ 0) × (r .second ≡ other)
+  pub listed : 0 < r .refusal → isAmong numbers (r .refusal) ≡ true

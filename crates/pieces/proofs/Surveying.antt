@@ -6,7 +6,7 @@ use mathlib.Core.List.{List}
 use mathlib.Core.Bool.{Bool, true, false}
 use native.Mathlib.Omega.{arith}
 use lib.ListN.{length, getD}
-use Rattle.tables.proofs.Cases.{by-order, by-equal, by-test}
+use Rattle.tables.proofs.Cases.{by-order, by-equal, by-test, never}
 use Rattle.blocks.specs.Places.{wholeBlocks, blockAt}
 use Rattle.blocks.specs.Headers.{Bytes, headerByte, flagOf, swapOf, countOf, announcedIn}
 use Rattle.blocks.proofs.Headers.{announced-none, announced-more}
@@ -14,7 +14,6 @@ use Rattle.packets.specs.Walk.{reach}
 use Rattle.hold.specs.declared.Standing.{Standing}
 use Rattle.hold.specs.Ready.{ready}
 use Rattle.hold.specs.Held.{baseAt, blockFits, fits}
-use Rattle.hold.proofs.Leading.{never}
 use Rattle.hold.proofs.Ready.{ds2-ready-is, ready-none, ds2-base, base-within}
 use Rattle.hold.proofs.Front.{fits-each, each-fits}
 use Rattle.blocks.proofs.Headers.{announced-most}

@@ -1,14 +1,13 @@
 -- Which numbers the walk over QP7 records refuses by: 4 and 5.
 -- Assumes nothing.
-use Prim.Native.Nat.{ℕ, zero, suc, _+_, _*_, _≤_}
-use mathlib.Core.Path.{sym, subst}
-use mathlib.Core.List.{List}
-use native.Mathlib.Omega.{arith}
+use Prim.Native.Nat.{ℕ, zero, suc, _+_, _*_}
+use mathlib.Core.Path.{refl, sym, subst}
+use mathlib.Core.List.{List, [], _∷_}
 use lib.Dec.{leb}
 use Rattle.tables.proofs.Cases.{by-equal}
 use Rattle.blocks.specs.Places.{streamAt}
 use Rattle.blocks.specs.Headers.{firstOf, countOf}
-use Rattle.refusals.specs.Said.{answers, Numbered}
+use Rattle.refusals.specs.Said.{Said, answers, isAmong, Numbered}
 use Rattle.refusals.proofs.Numbered.{answered, asked, goes-on}
 use Rattle.whole.specs.declared.Recording.{Recording}
 use Rattle.frames.specs.Start.{framesStart}
@@ -16,31 +15,33 @@ use Rattle.qp7.specs.Records.{recordSize, recordAt}
 use Rattle.qp7.specs.Walk.{Gathered, noted, raised, closing, reads, withBlock, gatheredTo, gatheredFrom}
 use Rattle.qp7.proofs.Blockwise.{silent-is, announcing-is}
 
-module _ {most : ℕ} (high : 5 ≤ most) where
-  -- one record, some, those of a block, and all
-  finding : (s : ℕ → ℕ) (long q : ℕ) → Numbered most (recordAt s long q)
-  unfolding recordAt
-  finding s long q =
-      let size = recordSize (s (q + 1)) in
-      asked (leb (q + 2) long) 4 q (omega arith) (omega arith) (asked (leb (q + size) long) 5 q (omega arith) (omega arith) (answered size))
+abbrev pub recordRefusals : List ℕ
+recordRefusals = 4 ∷ 5 ∷ []
 
-  reading : (s : ℕ → ℕ) (long n : ℕ) (g : Gathered) → Numbered most (reads s long n g)
-  unfolding reads
-  reading s long zero g = answered g
-  reading s long (suc n) g = goes-on (recordAt s long (g .place)) _ (finding s long (g .place)) (λ size. reading s long n (noted size g))
+-- one record, some, those of a block, and all
+finding : (s : ℕ → ℕ) (long q : ℕ) → Numbered recordRefusals (recordAt s long q)
+unfolding recordAt isAmong
+finding s long q =
+    let size = recordSize (s (q + 1)) in
+    asked (leb (q + 2) long) 4 q refl (asked (leb (q + size) long) 5 q refl (answered size))
 
-  with-block : (f : List ℕ) (a n b : ℕ) (g : Gathered) → Numbered most (withBlock f a n b g)
-  with-block f a n b g =
-      by-equal (countOf f a b) 0 (λ none. subst (Numbered most) (sym (silent-is f a n b g none)) (answered _))
-      (λ some.
-      subst (Numbered most) (sym (announcing-is f a n b g some))
-      (reading (streamAt f a n) (506 * n) (countOf f a b) (raised (framesStart b (firstOf f a b)) g)))
+reading : (s : ℕ → ℕ) (long n : ℕ) (g : Gathered) → Numbered recordRefusals (reads s long n g)
+unfolding reads
+reading s long zero g = answered g
+reading s long (suc n) g = goes-on (recordAt s long (g .place)) _ (finding s long (g .place)) (λ size. reading s long n (noted size g))
 
-  gathering : (f : List ℕ) (a n b : ℕ) → Numbered most (gatheredTo f a n b)
-  unfolding gatheredTo
-  gathering f a n zero = answered _
-  gathering f a n (suc b) = goes-on (gatheredTo f a n b) (withBlock f a n b) (gathering f a n b) (with-block f a n b)
+with-block : (f : List ℕ) (a n b : ℕ) (g : Gathered) → Numbered recordRefusals (withBlock f a n b g)
+with-block f a n b g =
+    by-equal (countOf f a b) 0 (λ none. subst (λ (said : Said Gathered). Numbered recordRefusals said) (sym (silent-is f a n b g none)) (answered _))
+    (λ some.
+    subst (λ (said : Said Gathered). Numbered recordRefusals said) (sym (announcing-is f a n b g some))
+    (reading (streamAt f a n) (506 * n) (countOf f a b) (raised (framesStart b (firstOf f a b)) g)))
 
-  pub gathering-all : (f : List ℕ) (rec : Recording) → Numbered most (gatheredFrom f rec)
-  unfolding gatheredFrom
-  gathering-all f rec = goes-on _ (λ g. answers (closing g)) (gathering f (rec .start .0) (rec .blocks) (rec .blocks)) (λ g. answered _)
+gathering : (f : List ℕ) (a n b : ℕ) → Numbered recordRefusals (gatheredTo f a n b)
+unfolding gatheredTo
+gathering f a n zero = answered _
+gathering f a n (suc b) = goes-on (gatheredTo f a n b) (withBlock f a n b) (gathering f a n b) (with-block f a n b)
+
+pub gathering-all : (f : List ℕ) (rec : Recording) → Numbered recordRefusals (gatheredFrom f rec)
+unfolding gatheredFrom
+gathering-all f rec = goes-on _ (λ g. answers (closing g)) (gathering f (rec .start .0) (rec .blocks) (rec .blocks)) (λ g. answered _)

@@ -5,10 +5,10 @@ use mathlib.Core.Path.{_≡_, refl, sym, ap, _∙_, subst}
 use mathlib.Core.List.{List}
 use mathlib.Core.Bool.{Bool, true, false, cond}
 use native.Mathlib.Omega.{arith}
-use borrow.Author.Tests.{leb-true, leb-false, eqb-true}
+use borrow.Author.Tests.{leb-true, leb-false, eqb-true, eqb-false}
 use lib.ListN.{length}
 use lib.Dec.{eqb}
-use Rattle.tables.proofs.Cases.{by-order, by-test, either-most}
+use Rattle.tables.proofs.Cases.{by-order, by-test, either-most, never}
 use Rattle.tables.proofs.Lent.{leaves-none, leaves-over}
 use Rattle.blocks.specs.Places.{Whole, wholeBlocks}
 use Rattle.refusals.specs.Said.{answers, demand}
@@ -18,7 +18,6 @@ use Rattle.sp.specs.Outcome.{roomIn, demuxedSays}
 use Rattle.hold.specs.Ready.{readingIn, ready}
 use Rattle.hold.specs.Held.{baseAt, fits}
 use Rattle.hold.specs.Inner.{PartWritten, Owing}
-use Rattle.hold.proofs.Leading.{never}
 use Rattle.hold.proofs.Front.{fits-each}
 use Rattle.hold.proofs.Longer.{base-grows-in}
 use Rattle.reader.specs.declared.Reader.{Reader}
@@ -73,7 +72,7 @@ drainedBy some carry phase r =
     }
 
 -- its state is sound: it drains, or has ended when nothing more is owed
-drained-sound : (s : State) (some : ℕ) → Sound s → some ≤ owed s → headerDone s ≡ true → Sound (afterLenient s (answers some))
+pub drained-sound : (s : State) (some : ℕ) → Sound s → some ≤ owed s → headerDone s ≡ true → Sound (afterLenient s (answers some))
 drained-sound s some sound few full =
     record {
       kind-is = sound .kind-is;
@@ -82,6 +81,8 @@ drained-sound s some sound few full =
       fit = sound .fit;
       among = omega (arith, sound .among);
       taking = λ e. absurd (by-test (eqb some (owed s)) (λ t. omega (arith, simp t at e)) (λ t. omega (arith, simp t at e)));
+      draining = λ e.
+          by-test (eqb some (owed s)) (λ t. absurd (omega (arith, simp t at e))) (λ t. omega (arith, eqb-false some (owed s) t));
       ended = λ e.
           by-test (eqb some (owed s)) (λ t. omega (arith, eqb-true some (owed s) t)) (λ t. absurd (omega (arith, simp t at e)));
       header = λ h. full;

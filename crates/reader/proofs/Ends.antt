@@ -60,17 +60,19 @@ module _ (phase a long owed : ℕ) where
           unfolding strictBy
           strict-ends none = simp (ne-eqb phase 1 takes, ne-eqb phase 2 not-ended, full, ← is, eq-eqb (past % 512) 0 whole, eq-eqb owed 0 none)
 
--- who was not refused had ended already, or has a full header and owes nothing
-strict-passed : {X : Type 0} (phase a long owed n : ℕ) → strictBy phase a long owed ≡ answers n → (phase ≡ 2 → X)
-    → (headerFull a long ≡ true → owed ≡ 0 → X) → X
+-- who was not refused is answered no packets, and had ended already, or has a full header and whole blocks and owes nothing
+pub strict-passed : {X : Type 0} (phase a long owed n : ℕ) → strictBy phase a long owed ≡ answers n → (n ≡ 0 → phase ≡ 2 → X)
+    → (n ≡ 0 → headerFull a long ≡ true → inBlock a long ≡ 0 → owed ≡ 0 → X) → X
 unfolding strictBy
 strict-passed phase a long owed n said ended ends =
-    by-test (eqb phase 2) (λ e. ended (eqb-true phase 2 e))
-    (λ e.
     let takes = passed (not (eqb phase 1)) 6 0 (cond (eqb phase 2) (answers 0) header) said in
+    by-test (eqb phase 2) (λ e. let none : n ≡ 0 = cc (rw e at (takes .1)) in ended none (eqb-true phase 2 e))
+    (λ e.
     let full = passed (headerFull a long) 3 a inside (rw e at (takes .1)) in
     let whole = passed (eqb (inBlock a long) 0) 13 (inBlock a long) owing (full .1) in
-    ends (full .0) (eqb-true owed 0 (passed (eqb owed 0) 14 owed (answers 0) (whole .1) .0)))
+    let nothing = passed (eqb owed 0) 14 owed (answers 0) (whole .1) in
+    let none : n ≡ 0 = cc (nothing .1) in
+    ends none (full .0) (eqb-true (inBlock a long) 0 (whole .0)) (eqb-true owed 0 (nothing .0)))
   where
     owing : Said ℕ
     owing = demand (eqb owed 0) 14 owed (answers 0)
@@ -99,7 +101,7 @@ inPhase phase r =
       waiting = r .waiting;
     }
 
-ended-sound : (s : State) (n : ℕ) → Sound s → strictSaid s ≡ answers n → Sound (afterStrict s (answers n))
+pub ended-sound : (s : State) (n : ℕ) → Sound s → strictSaid s ≡ answers n → Sound (afterStrict s (answers n))
 ended-sound s n sound said =
     record {
       kind-is = sound .kind-is;
@@ -108,8 +110,9 @@ ended-sound s n sound said =
       fit = sound .fit;
       among = sound .among;
       taking = λ e. absurd (omega arith);
-      ended = λ e. strict-passed (s .phase) _ _ (owed s) n said (sound .ended) (λ full none. none);
-      header = λ h. strict-passed (s .phase) _ _ (owed s) n said (λ e. sound .header (λ z. omega arith)) (λ full none. full);
+      draining = λ e. absurd (omega arith);
+      ended = λ e. strict-passed (s .phase) _ _ (owed s) n said (λ none. sound .ended) (λ none full whole owes. owes);
+      header = λ h. strict-passed (s .phase) _ _ (owed s) n said (λ none e. sound .header (λ z. omega arith)) (λ none full whole owes. full);
       phases = omega arith;
     }
 

@@ -1,4 +1,4 @@
--- Calls one after another: what pieces that were all accepted brought out together, and what lenient ends did.
+-- Calls one after another: what the pieces that were accepted brought out together, and what lenient ends did.
 -- Assumes nothing.
 use Prim.Native.Nat.{ℕ, _+_, _*_, _≤_}
 use mathlib.Core.Path.{_≡_, sym, _∙_, subst}
@@ -13,14 +13,22 @@ use Rattle.sp.specs.Outcome.{roomIn, demuxedSays}
 use Rattle.reader.specs.declared.Reader.{Reader}
 use Rattle.reader.specs.declared.Step.{Step}
 use Rattle.reader.specs.State.{State, isKind, opened, readingBy, readyBy, handed, owed, readerOf, Sound}
-use Rattle.reader.specs.Calls.{openSaid, afterOpen, afterPiece, afterLenient, Opens}
-use Rattle.reader.specs.History.{PieceCall, LenientCall, joined, Fed, Drained, none, more}
+use Rattle.reader.specs.Calls.{openSaid, afterOpen, afterPiece, afterStrict, afterLenient, Opens}
+use Rattle.reader.specs.History.{PieceCall, LenientCall, joined, Refuses, a-piece, a-strict-end, a-lenient-end, Fed, Drained, none, more, strictly, refused}
 use Rattle.reader.proofs.Parts.{Part, part-none, part-joined, ready-in-header, ready-more, part-stays}
 use Rattle.reader.proofs.Laws.{steps-by, hands-by, part-written, piece-accepted, lenient-many}
 
 -- a state with other bytes
 abbrev pub holding : State → List ℕ → State
 holding s f = record { kind = s .kind; bytes = f; drained = s .drained; phase = s .phase }
+
+-- a refused call gives back a reader for the same state
+pub kept-by : {reader next : Reader} → Refuses reader next → (s : State) → reader ≡ readerOf s → Sound s → next ≡ readerOf s
+kept-by (a-piece piece out out′ counts counts′ step why call said) s e sound =
+    steps-by (afterPiece s piece) said (call s e sound .steps) .reader-is
+kept-by (a-strict-end step why call said) s e sound = steps-by (afterStrict s) said (call s e sound) .reader-is
+kept-by (a-lenient-end out out′ counts counts′ step why call said) s e sound =
+    steps-by (afterLenient s) said (call s e sound .steps) .reader-is
 
 -- from a state a reader came to hold the bytes f, and n packets came out
 pub record Took (s : State) (f : List ℕ) (n : ℕ) (packets entries : List ℕ) (last : Reader) : Type 0 where
@@ -59,7 +67,7 @@ took-more {s} {f} {m = m} {packets′ = packets′} {entries′ = entries′} re
           (subst (λ (k : ℕ). Part (readingBy (s .kind) (f ++ rest)) k m packets′ entries′) (sym (v .many)) (w .part));
     }
 
--- pieces that were all accepted, one after another
+-- pieces that were accepted, one after another
 pub fed-is : {reader last : Reader} {pieces : List (List ℕ)} {n : ℕ} {packets entries : List ℕ} → Fed reader pieces n packets entries last
     → (s : State) → reader ≡ readerOf s → Sound s → Took s (s .bytes ++ joined pieces) n packets entries last
 unfolding joined
@@ -70,6 +78,7 @@ fed-is (more {piece = piece} {rest = rest} out out′ counts counts′ step call
     let v = took-one s e sound call said in
     let w = fed-is after (holding s (s .bytes ++ piece)) (v .reader-is) (v .sound) in
     rw (← append-assoc (s .bytes) piece (joined rest)) (took-more (joined rest) v w)
+fed-is (refused call after) s e sound = fed-is after s (kept-by call s e sound) sound
 
 -- the same from a reader that was opened as a kind that there is
 pub record Came (kind : ℕ) (f : List ℕ) (n : ℕ) (packets entries : List ℕ) (last : Reader) : Type 0 where
@@ -145,7 +154,7 @@ drew-more {s} {n} {m} {packets′ = packets′} {entries′ = entries′} v w =
       part = part-joined (v .part) (subst (λ (k : ℕ). Part (readingBy (s .kind) (s .bytes)) k m packets′ entries′) from (w .part));
     }
 
--- lenient ends one after another
+-- ends one after another
 pub drained-is : {reader last : Reader} {rooms : List ℕ} {n : ℕ} {packets entries : List ℕ} → Drained reader rooms n packets entries last
     → (s : State) → reader ≡ readerOf s → Sound s → Drew s n packets entries last
 drained-is none s e sound =
@@ -160,6 +169,11 @@ drained-is none s e sound =
 drained-is (more out out′ counts counts′ step room call said after) s e sound =
     let v = drew-one s e sound call said in
     drew-more v (drained-is after (lighter s (v .drained) (v .phase)) (v .reader-is) (v .sound))
+drained-is (strictly step call said after) s e sound =
+    let next = steps-by (afterStrict s) said (call s e sound) in
+    let v = drained-is after (lighter s (s .drained) 2) (next .reader-is) (next .sound) in
+    record { drained = v .drained; phase = v .phase; reader-is = v .reader-is; sound = v .sound; many = v .many; part = v .part }
+drained-is (refused call after) s e sound = drained-is after s (kept-by call s e sound) sound
 
 -- with room for a packet each time, and at least as many times as packets are owed, all of them come out
 pub all-drawn : {reader last : Reader} {rooms : List ℕ} {n : ℕ} {packets entries : List ℕ} → Drained reader rooms n packets entries last
@@ -172,3 +186,7 @@ all-drawn (more out out′ counts counts′ step room call said after) s e sound
     let left = drew-owed v in
     let rest = all-drawn after (lighter s (v .drained) (v .phase)) (v .reader-is) (v .sound) (roomy .1) (omega (arith, many, left, room, roomy .0)) in
     omega (arith, left, rest)
+all-drawn (strictly step call said after) s e sound roomy enough =
+    let next = steps-by (afterStrict s) said (call s e sound) in
+    all-drawn after (lighter s (s .drained) 2) (next .reader-is) (next .sound) roomy enough
+all-drawn (refused call after) s e sound roomy enough = all-drawn after s (kept-by call s e sound) sound roomy enough

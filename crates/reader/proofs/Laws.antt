@@ -15,7 +15,7 @@ use Rattle.blocks.specs.Headers.{Bytes, announcedIn}
 use Rattle.blocks.proofs.Headers.{announced-none}
 use Rattle.refusals.specs.declared.Refusal.{Refusal}
 use Rattle.refusals.specs.Said.{Said, answers, refuses, refusal, demand}
-use Rattle.refusals.proofs.Said.{passed, only-one, readFrom}
+use Rattle.refusals.proofs.Said.{not-both, passed, by-demand, only-one, readFrom}
 use Rattle.sp.specs.declared.Demuxed.{Demuxed}
 use Rattle.sp.specs.declared.Demuxed.the-variants.{Packets, Refused}
 use Rattle.sp.specs.Readings.{Reading}
@@ -104,20 +104,16 @@ lenient-many {out = out} {counts = counts} s e sound call said =
 pub seven-given-by : (s : State) (piece : List ℕ) (room : ℕ) → pieceSaid s piece room ≡ refuses 7 12288 → fitsBy (s .kind) (s .bytes ++ piece) ≡ false
 unfolding pieceSaid
 seven-given-by s piece room e =
-    by-tests (eqb (s .phase) 0) (leb (length (s .bytes) + length piece) limit) (fitsBy (s .kind) (s .bytes ++ piece)) (leb (brings s piece) room)
-    (brings s piece) e
-  where
-    numberOf : Said ℕ → ℕ
-    numberOf (answers n) = 0
-    numberOf (refusal why) = why .number
-
-    by-tests : (taking within fit roomy : Bool) (n : ℕ)
-        → demand taking 6 0 (demand within 2 limit (demand fit 7 12288 (demand roomy 8 n (answers n)))) ≡ refuses 7 12288 → fit ≡ false
-    by-tests true true true true n e = absurd (omega (arith, ap numberOf e))
-    by-tests true true true false n e = absurd (omega (arith, ap numberOf e))
-    by-tests true true false roomy n e = refl
-    by-tests true false fit roomy n e = absurd (omega (arith, ap numberOf e))
-    by-tests false within fit roomy n e = absurd (omega (arith, ap numberOf e))
+    by-demand (eqb (s .phase) 0) e
+    (λ taking e.
+    by-demand (leb (length (s .bytes) + length piece) limit) e
+    (λ within e.
+    by-demand (fitsBy (s .kind) (s .bytes ++ piece)) e
+    (λ fit e.
+    by-demand (leb (brings s piece) room) e (λ roomy e. absurd (not-both (sym e))) (λ full is beside. absurd (omega (arith, is))))
+    (λ full is beside. full))
+    (λ over is beside. absurd (omega (arith, is))))
+    (λ ended is beside. absurd (omega (arith, is)))
 
 -- a header that is reached is full
 pub header-full : (a long : ℕ) → a ≤ long → headerFull a long ≡ true

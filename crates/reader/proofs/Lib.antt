@@ -11,5 +11,10 @@ pub mod Fitting
 pub mod Blockwise
 pub mod Total
 pub mod Counted
+pub mod Complete
+pub mod Reachable
+pub mod Rooms
+pub mod Wrong
+pub mod Called
 pub mod Equal
 pub mod Settled

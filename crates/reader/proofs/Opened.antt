@@ -29,7 +29,7 @@ use Rattle.hold.proofs.Front.{each-fits}
 use Rattle.reader.specs.declared.Reader.{Reader}
 use Rattle.pieces.specs.Joined.{bytesFrom}
 use Rattle.reader.specs.State.{State, isKind, isDss, startOf, blocksIn, readyBy, handed, readerOf, Sound}
-use Rattle.reader.specs.Calls.{openSaid, Opens}
+use Rattle.reader.specs.Calls.{openSaid, afterOpen, Opens}
 
 -- the kinds that there are
 pub by-kind {ℓ} : {X : Type ℓ} (kind : ℕ) → isKind kind ≡ true → (kind ≡ 0 → X) → (kind ≡ 2 → X) → (kind ≡ 3 → X) → X
@@ -135,8 +135,8 @@ module _ (kind phase : ℕ) where
   fresh-is : freshReader kind phase ≡ readerOf (fresh kind phase)
   fresh-is = stands-for (fresh kind phase) refl stands partial-zero
 
-  fresh-sound : isKind kind ≡ true → phase ≤ 2 → Sound (fresh kind phase)
-  fresh-sound is few =
+  fresh-sound : isKind kind ≡ true → (phase ≡ 1 → ⊥) → phase ≤ 2 → Sound (fresh kind phase)
+  fresh-sound is not-draining few =
       record {
         kind-is = is;
         bytes-are = λ i. omega arith;
@@ -144,6 +144,7 @@ module _ (kind phase : ℕ) where
         fit = none-fits (isDss kind) [] (startOf kind) n n none;
         among = omega (arith, ready-within (isDss kind) [] (startOf kind) n);
         taking = λ e. refl;
+        draining = λ e. absurd (not-draining e);
         ended = λ e. omega (arith, ap (λ (now : Standing). now .announced) (stands .numbers-are));
         header = λ h. refl;
         phases = few;
@@ -154,6 +155,13 @@ unfolding isKind
 ds2-is = refl
 
 -- opening: a fresh reader of a kind that there is, or an ended one
+pub opened-sound : (kind : ℕ) → Sound (afterOpen kind (openSaid kind))
+unfolding openSaid
+opened-sound kind =
+    by-test (isKind kind)
+    (λ is. rw is (fresh-sound kind 0 is (λ e. omega arith) (omega arith)))
+    (λ is-not. rw is-not (fresh-sound 0 2 ds2-is (λ e. omega arith) (omega arith)))
+
 pub opens : (kind kind′ phase : ℕ) (known : Bool) (answer : Demuxed) → known ≡ isKind kind → demuxedSays answer ≡ demand known 10 kind (answers 0)
     → kind′ ≡ cond known kind 0 → phase ≡ cond known 0 2 → Opens kind (record { answer = answer; reader = freshReader kind′ phase })
 unfolding openSaid
@@ -161,9 +169,9 @@ opens kind kind′ phase known answer is said kind-is phase-is =
     by-test known
     (λ e.
     let is-such : isKind kind ≡ true = sym is ∙ e in
-    rw (kind-is, phase-is, is-such, e)
-    (record { answer-is = rw e at said; reader-is = fresh-is kind 0; sound = fresh-sound kind 0 is-such (omega arith) }))
+    let sound = rw is-such at (opened-sound kind) in
+    rw (kind-is, phase-is, is-such, e) (record { answer-is = rw e at said; reader-is = fresh-is kind 0; sound = sound }))
     (λ e.
     let not-such : isKind kind ≡ false = sym is ∙ e in
-    rw (kind-is, phase-is, not-such, e)
-    (record { answer-is = rw e at said; reader-is = fresh-is 0 2; sound = fresh-sound 0 2 ds2-is (omega arith) }))
+    let sound = rw not-such at (opened-sound kind) in
+    rw (kind-is, phase-is, not-such, e) (record { answer-is = rw e at said; reader-is = fresh-is 0 2; sound = sound }))

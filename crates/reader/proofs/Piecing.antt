@@ -8,7 +8,7 @@ use native.Mathlib.Omega.{arith}
 use lib.ListN.{length, length-append, List·getD-append}
 use lib.Seq.{getD-append-add}
 use lib.Dec.{eqb, leb}
-use Rattle.tables.proofs.Cases.{by-order}
+use Rattle.tables.proofs.Cases.{by-order, never}
 use Rattle.tables.proofs.Table.{table-at}
 use Rattle.tables.proofs.Lent.{leaves-over}
 use Rattle.blocks.specs.Places.{limit, Whole, wholeBlocks, blockAt}
@@ -23,7 +23,6 @@ use Rattle.hold.specs.declared.Standing.{Standing}
 use Rattle.hold.specs.Ready.{ready}
 use Rattle.hold.specs.Held.{fits, waitingAt, holdAt}
 use Rattle.hold.specs.Inner.{PartWritten, numbersAt, Stands}
-use Rattle.hold.proofs.Leading.{never}
 use Rattle.hold.proofs.Ready.{ready-within}
 use Rattle.hold.proofs.Longer.{ready-kept, base-kept, hold-kept, waiting-kept, first-kept, fits-kept, carry-same}
 use Rattle.reader.specs.declared.Reader.{Reader}
@@ -161,7 +160,7 @@ module _ (s : State) (piece : List ℕ) (sound : Sound s) (bytes : Bytes piece) 
       }
 
   -- the state after it is sound
-  next-sound : (room : ℕ) {m : ℕ} → pieceSaid s piece room ≡ answers m → Sound (afterPiece s piece (answers m))
+  pub next-sound : (room : ℕ) {m : ℕ} → pieceSaid s piece room ≡ answers m → Sound (afterPiece s piece (answers m))
   next-sound room e =
       let p = piece-accepted s piece room _ e in
       record {
@@ -171,6 +170,7 @@ module _ (s : State) (piece : List ℕ) (sound : Sound s) (bytes : Bytes piece) 
         fit = p .4;
         among = omega (arith, ready-within dss f a all, sound .taking (p .0));
         taking = sound .taking;
+        draining = λ e. absurd (omega (arith, p .0));
         ended = λ e. absurd (omega (arith, p .0));
         header = λ h. absurd (h (p .0));
         phases = sound .phases;

@@ -7,11 +7,11 @@ use mathlib.Core.Bool.{true, false}
 use native.Mathlib.Omega.{arith}
 use borrow.Author.Tests.{lt-leb, ne-eqb}
 use lib.ListN.{length}
+use Rattle.tables.proofs.Cases.{never}
 use Rattle.blocks.specs.Headers.{Bytes}
 use Rattle.refusals.specs.declared.Refusal.{Refusal}
 use Rattle.refusals.specs.Said.{answers, refuses, refusal}
 use Rattle.sp.specs.Outcome.{demuxedSays}
-use Rattle.hold.proofs.Leading.{never}
 use Rattle.hold.proofs.Front.{dss-fits}
 use Rattle.reader.specs.declared.Reader.{Reader}
 use Rattle.reader.specs.declared.Step.{Step}

@@ -8,6 +8,7 @@ use lib.ListN.{length}
 use lib.Dec.{eqb, leb}
 use Rattle.tables.specs.Lent.{over}
 use Rattle.blocks.specs.Places.{limit}
+use Rattle.blocks.specs.Headers.{Bytes}
 use Rattle.refusals.specs.Said.{Said, answers, refusal, demand}
 use Rattle.sp.specs.Readings.{Reading, joinedByteAt, fileCountAt}
 use Rattle.sp.specs.Outcome.{roomIn, demuxedSays}
@@ -102,3 +103,10 @@ EndsStrictly s step = Steps (strictSaid s) (afterStrict s (strictSaid s)) step
 pub record EndsLeniently (s : State) (out out′ counts counts′ : List ℕ) (step : Step) : Type 0 where
   pub steps : Steps (lenientSaid s (roomIn out counts)) (afterLenient s (lenientSaid s (roomIn out counts))) step
   pub hands : Hands (readingBy (s .kind) (s .bytes)) (handed s) (lenientSaid s (roomIn out counts)) out out′ counts counts′
+
+-- the states that open and the calls lead to
+pub data Reachable : State → Type 0 where
+  by-open : (kind : ℕ) → Reachable (afterOpen kind (openSaid kind))
+  by-piece : {s : State} (piece : List ℕ) (room : ℕ) → Bytes piece → Reachable s → Reachable (afterPiece s piece (pieceSaid s piece room))
+  by-strict : {s : State} → Reachable s → Reachable (afterStrict s (strictSaid s))
+  by-lenient : {s : State} (room : ℕ) → Reachable s → Reachable (afterLenient s (lenientSaid s room))

@@ -1,12 +1,13 @@
--- Calls one after another, as their contracts have them: pieces that a reader accepted, and lenient ends. What came out is the bytes and
--- the counts that the calls wrote, joined. Assumes nothing.
+-- Calls one after another, as their contracts have them: pieces that a reader accepted, ends, and between them whatever was refused. What
+-- came out is the bytes and the counts that the calls wrote, joined. Assumes nothing.
 use Prim.Native.Nat.{ℕ, _+_, _*_, _≤_, _<_}
 use mathlib.Core.Path.{_≡_}
 use mathlib.Core.List.{List, [], _∷_, _++_}
 use lib.ListN.{take}
 use Rattle.tables.specs.Table.{table}
 use Rattle.blocks.specs.Headers.{countOf, announcedIn}
-use Rattle.refusals.specs.Said.{answers}
+use Rattle.refusals.specs.declared.Refusal.{Refusal}
+use Rattle.refusals.specs.Said.{answers, refusal}
 use Rattle.sp.specs.Readings.{Reading, joinedByteAt, fileCountAt, CompleteAt}
 use Rattle.sp.specs.Outcome.{roomIn, demuxedSays}
 use Rattle.reader.specs.declared.Reader.{Reader}
@@ -45,18 +46,67 @@ unfoldable pub joined : List (List ℕ) → List ℕ
 joined [] = []
 joined (piece ∷ rest) = piece ++ joined rest
 
--- a reader was given these pieces, accepted them all, and became another; n packets came out
+-- a call on a reader was refused, and gave another back
+pub data Refuses : Reader → Reader → Type 0 where
+  a-piece : {reader : Reader} (piece out out′ counts counts′ : List ℕ) (step : Step) (why : Refusal)
+      → PieceCall reader piece out out′ counts counts′ step → demuxedSays (step .answer) ≡ refusal why → Refuses reader (step .reader)
+  a-strict-end : {reader : Reader} (step : Step) (why : Refusal) → StrictCall reader step → demuxedSays (step .answer) ≡ refusal why
+      → Refuses reader (step .reader)
+  a-lenient-end : {reader : Reader} (out out′ counts counts′ : List ℕ) (step : Step) (why : Refusal)
+      → LenientCall reader out out′ counts counts′ step → demuxedSays (step .answer) ≡ refusal why → Refuses reader (step .reader)
+
+-- a reader accepted these pieces, refused any other calls in between, and became another; n packets came out
 pub data Fed : Reader → List (List ℕ) → ℕ → List ℕ → List ℕ → Reader → Type 0 where
   none : {reader : Reader} → Fed reader [] 0 [] [] reader
   more : {reader last : Reader} {piece : List ℕ} {rest : List (List ℕ)} {n m : ℕ} {packets entries : List ℕ}
       (out out′ counts counts′ : List ℕ) (step : Step) → PieceCall reader piece out out′ counts counts′ step
       → demuxedSays (step .answer) ≡ answers n → Fed (step .reader) rest m packets entries last
       → Fed reader (piece ∷ rest) (n + m) (take (42 * n) out′ ++ packets) (take n counts′ ++ entries) last
+  refused : {reader next last : Reader} {pieces : List (List ℕ)} {n : ℕ} {packets entries : List ℕ} → Refuses reader next
+      → Fed next pieces n packets entries last → Fed reader pieces n packets entries last
 
--- a reader was ended leniently again and again, with these rooms
+-- a reader was ended leniently again and again, with these rooms, or strictly, and refused any other calls in between
 pub data Drained : Reader → List ℕ → ℕ → List ℕ → List ℕ → Reader → Type 0 where
   none : {reader : Reader} → Drained reader [] 0 [] [] reader
   more : {reader last : Reader} {room : ℕ} {rest : List ℕ} {n m : ℕ} {packets entries : List ℕ}
       (out out′ counts counts′ : List ℕ) (step : Step) → roomIn out counts ≡ room → LenientCall reader out out′ counts counts′ step
       → demuxedSays (step .answer) ≡ answers n → Drained (step .reader) rest m packets entries last
       → Drained reader (room ∷ rest) (n + m) (take (42 * n) out′ ++ packets) (take n counts′ ++ entries) last
+  strictly : {reader last : Reader} {rooms : List ℕ} {n m : ℕ} {packets entries : List ℕ} (step : Step) → StrictCall reader step
+      → demuxedSays (step .answer) ≡ answers m → Drained (step .reader) rooms n packets entries last
+      → Drained reader rooms n packets entries last
+  refused : {reader next last : Reader} {rooms : List ℕ} {n : ℕ} {packets entries : List ℕ} → Refuses reader next
+      → Drained next rooms n packets entries last → Drained reader rooms n packets entries last
+
+-- any calls on a reader, one after another and in any order: these pieces were accepted, and n packets came out, by pieces and by ends
+pub data Called : Reader → List (List ℕ) → ℕ → List ℕ → List ℕ → Reader → Type 0 where
+  none : {reader : Reader} → Called reader [] 0 [] [] reader
+  piece : {reader last : Reader} {piece : List ℕ} {rest : List (List ℕ)} {n m : ℕ} {packets entries : List ℕ}
+      (out out′ counts counts′ : List ℕ) (step : Step) → PieceCall reader piece out out′ counts counts′ step
+      → demuxedSays (step .answer) ≡ answers n → Called (step .reader) rest m packets entries last
+      → Called reader (piece ∷ rest) (n + m) (take (42 * n) out′ ++ packets) (take n counts′ ++ entries) last
+  lenient : {reader last : Reader} {pieces : List (List ℕ)} {n m : ℕ} {packets entries : List ℕ}
+      (out out′ counts counts′ : List ℕ) (step : Step) → LenientCall reader out out′ counts counts′ step
+      → demuxedSays (step .answer) ≡ answers n → Called (step .reader) pieces m packets entries last
+      → Called reader pieces (n + m) (take (42 * n) out′ ++ packets) (take n counts′ ++ entries) last
+  strict : {reader last : Reader} {pieces : List (List ℕ)} {n m : ℕ} {packets entries : List ℕ} (step : Step) → StrictCall reader step
+      → demuxedSays (step .answer) ≡ answers m → Called (step .reader) pieces n packets entries last
+      → Called reader pieces n packets entries last
+  refused : {reader next last : Reader} {pieces : List (List ℕ)} {n : ℕ} {packets entries : List ℕ} → Refuses reader next
+      → Called next pieces n packets entries last → Called reader pieces n packets entries last
+
+-- such calls in two parts: as long as pieces were taken, and from the first end on that was answered
+pub record InTwo (reader : Reader) (pieces : List (List ℕ)) (n : ℕ) (packets entries : List ℕ) (last : Reader) : Type 0 where
+  pub middle : Reader
+  pub n₁ : ℕ
+  pub packets₁ : List ℕ
+  pub entries₁ : List ℕ
+  pub fed : Fed reader pieces n₁ packets₁ entries₁ middle
+  pub rooms : List ℕ
+  pub n₂ : ℕ
+  pub packets₂ : List ℕ
+  pub entries₂ : List ℕ
+  pub drained : Drained middle rooms n₂ packets₂ entries₂ last
+  pub many : n ≡ n₁ + n₂
+  pub packets-are : packets ≡ packets₁ ++ packets₂
+  pub entries-are : entries ≡ entries₁ ++ entries₂

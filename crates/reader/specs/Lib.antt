@@ -3,3 +3,4 @@ pub mod State
 pub mod Calls
 pub mod History
 pub mod Agreement
+pub mod Complete

@@ -1,6 +1,6 @@
 -- A reader's state is its kind, the bytes joined so far, how many packets a lenient end has handed out, and its phase. Everything that a
 -- Reader holds is a function of these. It looks at no magic and no type. Assumes nothing.
-use Prim.Native.Nat.{ℕ, _+_, _*_, _-_, _≤_}
+use Prim.Native.Nat.{ℕ, _+_, _*_, _-_, _≤_, _<_}
 use mathlib.Core.Path.{_≡_}
 use mathlib.Core.List.{List, []}
 use mathlib.Core.Bool.{Bool, true, not, cond}
@@ -88,7 +88,7 @@ headerFull a long = cond (eqb long 0) true (leb a long)
 abbrev pub headerDone : State → Bool
 headerDone s = headerFull (startOf (s .kind)) (length (s .bytes))
 
--- a sound state: what every state has that open or a call gave back
+-- a sound state: what every state has that open or a call gave back, and no other
 pub record Sound (s : State) : Type 0 where
   pub kind-is : isKind (s .kind) ≡ true
   pub bytes-are : Bytes (s .bytes)
@@ -96,6 +96,7 @@ pub record Sound (s : State) : Type 0 where
   pub fit : fitsBy (s .kind) (s .bytes) ≡ true
   pub among : handed s ≤ announcedBy (s .kind) (s .bytes)
   pub taking : s .phase ≡ 0 → s .drained ≡ 0
+  pub draining : s .phase ≡ 1 → 0 < owed s
   pub ended : s .phase ≡ 2 → owed s ≡ 0
   pub header : (s .phase ≡ 0 → ⊥) → headerDone s ≡ true
   pub phases : s .phase ≤ 2

@@ -1,26 +1,48 @@
 -- Which numbers a call refuses by, from its parts: an answer, a refusal, a test, and what goes on.
 -- Assumes nothing.
-use Prim.Native.Nat.{ℕ, _≤_}
-use mathlib.Core.Path.{_≡_, sym, ap}
-use mathlib.Core.Bool.{Bool, true, false}
-use native.Mathlib.Omega.{arith}
-use Rattle.refusals.specs.Said.{Said, answers, refuses, refusal, demand, onward, Numbered}
+use Prim.Native.Nat.{ℕ}
+use mathlib.Core.Path.{_≡_, refl, sym, ap, subst}
+use mathlib.Core.List.{List, [], _∷_}
+use mathlib.Core.Bool.{Bool, true, false, cond}
+use borrow.Author.Tests.{eqb-true}
+use lib.Dec.{eqb}
+use Rattle.tables.proofs.Cases.{by-test, never}
+use Rattle.refusals.specs.Said.{Said, answers, refuses, refusal, demand, onward, isAmong, Numbered}
 use Rattle.refusals.proofs.Said.{not-both}
 
-pub answered : {A : Type 0} {most : ℕ} (a : A) → Numbered most (answers a)
-answered a why e = absurd (not-both (sym e))
+module _ {A : Type 0} {numbers : List ℕ} where
+  pub answered : (a : A) → Numbered numbers (answers a)
+  answered a = record { among = λ why e. absurd (not-both (sym e)) }
 
-pub refused : {A : Type 0} {most : ℕ} (number beside : ℕ) → 1 ≤ number → number ≤ most → Numbered {A = A} most (refuses number beside)
-refused number beside low high why e =
-    let same : number ≡ why .number = cc in
-    (omega arith, omega arith)
+  pub refused : (number beside : ℕ) → isAmong numbers number ≡ true → Numbered {A = A} numbers (refuses number beside)
+  refused number beside there =
+      record { among = λ why e. let same : number ≡ why .number = cc in subst (λ (n : ℕ). isAmong numbers n ≡ true) same there }
 
-pub asked : {A : Type 0} {most : ℕ} (test : Bool) (number beside : ℕ) {rest : Said A} → 1 ≤ number → number ≤ most → Numbered most rest
-    → Numbered most (demand test number beside rest)
-asked true number beside low high then = then
-asked false number beside low high then = refused number beside low high
+  pub asked : (test : Bool) (number beside : ℕ) {rest : Said A} → isAmong numbers number ≡ true → Numbered numbers rest
+      → Numbered numbers (demand test number beside rest)
+  asked true number beside there then = then
+  asked false number beside there then = refused number beside there
 
-pub goes-on : {A B : Type 0} {most : ℕ} (said : Said A) (rest : A → Said B) → Numbered most said → ((a : A) → Numbered most (rest a))
-    → Numbered most (onward said rest)
+pub goes-on : {A B : Type 0} {numbers : List ℕ} (said : Said A) (rest : A → Said B) → Numbered numbers said
+    → ((a : A) → Numbered numbers (rest a)) → Numbered numbers (onward said rest)
 goes-on (answers a) rest first then = then a
-goes-on (refusal why) rest first then = λ other e. let same : why ≡ other = cc in first other (ap refusal same)
+goes-on (refusal why) rest first then = record { among = λ other e. let same : why ≡ other = cc in first .among other (ap refusal same) }
+
+-- a list that has all of another's numbers
+unfoldable pub hasAll : List ℕ → List ℕ → Bool
+hasAll numbers [] = true
+hasAll numbers (one ∷ rest) = cond (isAmong numbers one) (hasAll numbers rest) false
+
+has-each : (numbers some : List ℕ) → hasAll numbers some ≡ true → (n : ℕ) → isAmong some n ≡ true → isAmong numbers n ≡ true
+unfolding hasAll isAmong
+has-each numbers [] all n there = absurd (never there refl)
+has-each numbers (one ∷ rest) all n there =
+    by-test (isAmong numbers one)
+    (λ has.
+    by-test (eqb one n) (λ e. subst (λ (m : ℕ). isAmong numbers m ≡ true) (eqb-true one n e) has)
+    (λ e. has-each numbers rest (rw has at all) n (rw e at there)))
+    (λ lacks. absurd (never all (rw lacks)))
+
+-- what refuses by some numbers refuses by more
+pub wider : {A : Type 0} {some numbers : List ℕ} {said : Said A} → hasAll numbers some ≡ true → Numbered some said → Numbered numbers said
+wider {some = some} {numbers = numbers} all is = record { among = λ why e. has-each numbers some all (why .number) (is .among why e) }

@@ -6,7 +6,8 @@ use mathlib.Core.List.{List}
 use mathlib.Core.Bool.{Bool, true, false}
 use native.Mathlib.Omega.{arith}
 use Rattle.refusals.specs.declared.Refusal.{Refusal}
-use Rattle.refusals.specs.Said.{Said, demand, answers, onward, refusal}
+use Rattle.refusals.specs.Numbers.{numbered}
+use Rattle.refusals.specs.Said.{Said, demand, answers, onward, refusal, refuses}
 
 -- a call that refuses does not answer
 pub not-both : {A : Type 0} {a : A} {why : Refusal} → refusal why ≡ answers a → ⊥
@@ -21,6 +22,14 @@ pub passed : {A : Type 0} {a : A} (test : Bool) (number beside : ℕ) (rest : Sa
     → (test ≡ true) × (rest ≡ answers a)
 passed true number beside rest e = (refl, e)
 passed false number beside rest e = absurd (not-both e)
+
+-- what is refused at a test failed it, with that number and the one beside it, or is refused after it
+pub by-demand : {A X : Type 0} (test : Bool) {number beside m n : ℕ} {rest : Said A} → demand test number beside rest ≡ refuses m n
+    → (test ≡ true → rest ≡ refuses m n → X) → (test ≡ false → number ≡ m → beside ≡ n → X) → X
+by-demand true e after here = after refl e
+by-demand false {number} {beside} {m} {n} e after here =
+    let same : numbered number beside ≡ numbered m n = cc in
+    here refl (ap (λ (why : Refusal). why .number) same) (ap (λ (why : Refusal). why .beside) same)
 
 -- a call answers or refuses: what a proof by cases goes by
 pub by-said : {A X : Type 0} (said : Said A) → ((a : A) → said ≡ answers a → X)

@@ -1,8 +1,10 @@
 -- What a call says: its answer, or a refusal. Contracts of calls that may refuse speak of this, and a call's enum is read as such by a
 -- definition of its own. Assumes nothing.
-use Prim.Native.Nat.{ℕ, _≤_}
+use Prim.Native.Nat.{ℕ}
 use mathlib.Core.Path.{_≡_}
-use mathlib.Core.Bool.{Bool, true, false}
+use mathlib.Core.List.{List, [], _∷_}
+use mathlib.Core.Bool.{Bool, true, false, cond}
+use lib.Dec.{eqb}
 use Rattle.refusals.specs.declared.Refusal.{Refusal}
 use Rattle.refusals.specs.Numbers.{numbered}
 
@@ -24,6 +26,11 @@ abbrev pub onward : {A B : Type 0} → Said A → (A → Said B) → Said B
 onward (answers a) rest = rest a
 onward (refusal why) rest = refusal why
 
--- whatever refusal is said has a number from 1 to this one
-abbrev pub Numbered : {A : Type 0} → ℕ → Said A → Type 0
-Numbered most said = (why : Refusal) → said ≡ refusal why → (1 ≤ why .number) × (why .number ≤ most)
+-- n is in a list
+unfoldable pub isAmong : List ℕ → ℕ → Bool
+isAmong [] n = false
+isAmong (one ∷ rest) n = cond (eqb one n) true (isAmong rest n)
+
+-- whatever refusal is said has one of these numbers
+pub record Numbered {A : Type 0} (numbers : List ℕ) (said : Said A) : Type 0 where
+  pub among : (why : Refusal) → said ≡ refusal why → isAmong numbers (why .number) ≡ true

@@ -7,3 +7,4 @@ pub mod Outcome
 pub mod Longer
 pub mod Alike
 pub mod Theorems
+pub mod Wrong

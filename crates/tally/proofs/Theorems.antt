@@ -1,13 +1,12 @@
 -- What holds of `tally` for every file, beyond the contract or drawn from it. Each statement stands under a sentence that says it; the
 -- laws that carry them are in the files beside this one. Assumes nothing.
-use Prim.Native.Nat.{ℕ, _+_, _≤_}
+use Prim.Native.Nat.{ℕ, _+_}
 use mathlib.Core.Path.{_≡_, refl, sym, ap, _∙_}
 use mathlib.Core.List.{List}
 use mathlib.Core.Bool.{not}
 use mathlib.Core.Logic.{_⊎_, ⊎-elim}
 use Rattle.tables.specs.Settled.{SettledResult}
-use Rattle.refusals.specs.declared.Refusal.{Refusal}
-use Rattle.refusals.specs.Said.{answers, refusal}
+use Rattle.refusals.specs.Said.{answers, Numbered}
 use Rattle.refusals.proofs.Said.{went-on, for-the-answer, only-one, readFrom}
 use Rattle.magic.specs.Magics.{namesDss}
 use Rattle.whole.specs.declared.Recording.{Recording}
@@ -25,7 +24,7 @@ use Rattle.tally.specs.declared.Figures.{Figures}
 use Rattle.tally.specs.declared.Tallied.{Tallied}
 use Rattle.tally.specs.declared.Tallied.the-variants.{Counted, Refused}
 use Rattle.tally.specs.HandedOut.{recordsOut}
-use Rattle.tally.specs.Tallies.{handedBy, tallied, talliedSays}
+use Rattle.tally.specs.Tallies.{handedBy, tallied, tallyRefusals, talliedSays}
 use Rattle.tally.specs.Agreement.{kindFor, wholeOut, talliedOut}
 use Rattle.tally.proofs.Agreeing.{agrees, counting}
 use Rattle.tally.proofs.Refusing.{tallying}
@@ -86,8 +85,8 @@ module _ (f : List ℕ) (figures : Figures) (says : tallied f ≡ answers figure
       (records-many f rec (w .0) (w .1) ∙ sym (c .announced-are))
 
 -- A refusal is by 1, 2, 3, 4 or 5.
-pub refused-by : (f : List ℕ) (why : Refusal) → tallied f ≡ refusal why → (1 ≤ why .number) × (why .number ≤ 5)
-refused-by f why e = tallying f why e
+pub refused-by : (f : List ℕ) → Numbered tallyRefusals (tallied f)
+refused-by f = tallying f
 
 -- an answer is read back from what it says
 tallied-back : (x : Tallied) → readFrom Counted Refused (talliedSays x) ≡ x

@@ -1,7 +1,7 @@
 -- The tally of any file: its kind, audio start, whole blocks, announced frames, and what its whole reading hands out; or the refusal
 -- that the whole reading gives. Assumes nothing.
 use Prim.Native.Nat.{ℕ}
-use mathlib.Core.List.{List}
+use mathlib.Core.List.{List, [], _∷_}
 use mathlib.Core.Bool.{Bool, cond, not}
 use Rattle.refusals.specs.Said.{Said, answers, refusal, onward}
 use Rattle.magic.specs.Magics.{namesDss}
@@ -55,6 +55,10 @@ talliedAs dss f = onward (admission f dss (not dss)) (λ rec. countedAs (kindIn 
 -- bytes 1 to 3 `dss` choose DSS, otherwise DS2
 unfoldable pub tallied : List ℕ → Said Figures
 tallied f = talliedAs (namesDss f) f
+
+-- these are its refusals
+abbrev pub tallyRefusals : List ℕ
+tallyRefusals = 1 ∷ 2 ∷ 3 ∷ 4 ∷ 5 ∷ []
 
 -- the code's answers, read so
 abbrev pub talliedSays : Tallied → Said Figures

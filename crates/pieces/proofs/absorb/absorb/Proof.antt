@@ -7,8 +7,8 @@ use denote.Ref.{now}
 use lib.ListN.{length}
 use borrow.Author.Tests.{not-true, not-false}
 use native.Mathlib.Omega.{arith}
+use Rattle.tables.proofs.Cases.{never}
 use Rattle.blocks.specs.Places.{limit}
-use Rattle.hold.proofs.Leading.{never}
 use Rattle.pieces.proofs.Absorbing.{May, Turns, turns-begin, lent-long, ready-grown, comes, turned, absorbed}
 use borrow.Author.Needs.{needs}
 use Rattle.pieces.proofs.absorb.absorb.Statement.{statement}

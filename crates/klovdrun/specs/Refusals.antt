@@ -1,0 +1,44 @@
+-- The numbers that each export refuses by, in the order in which they are decided; `klov_tally`'s are the tally's own (`tallyRefusals`).
+-- Assumes nothing.
+use Prim.Native.Nat.{ℕ}
+use mathlib.Core.List.{List, [], _∷_}
+
+-- `klov_payload`
+abbrev pub payloadRefusals : List ℕ
+payloadRefusals = 1 ∷ 2 ∷ 3 ∷ 12 ∷ []
+
+-- `klov_demux_dss`
+abbrev pub dssRefusals : List ℕ
+dssRefusals = 1 ∷ 2 ∷ 3 ∷ 8 ∷ []
+
+-- `klov_demux_ds2_sp`
+abbrev pub ds2Refusals : List ℕ
+ds2Refusals = 1 ∷ 2 ∷ 3 ∷ 11 ∷ 8 ∷ []
+
+-- `klov_demux_ds2_qp`
+abbrev pub qpRefusals : List ℕ
+qpRefusals = 1 ∷ 2 ∷ 3 ∷ 11 ∷ 9 ∷ []
+
+-- `klov_demux_ds2_qp7`
+abbrev pub qp7Refusals : List ℕ
+qp7Refusals = 1 ∷ 2 ∷ 3 ∷ 11 ∷ 4 ∷ 5 ∷ 8 ∷ 9 ∷ []
+
+-- `klov_fetch` and `klov_show`
+abbrev pub fetchRefusals : List ℕ
+fetchRefusals = 1 ∷ 2 ∷ 3 ∷ 12 ∷ []
+
+-- `klov_open`
+abbrev pub openRefusals : List ℕ
+openRefusals = 10 ∷ []
+
+-- `klov_piece`
+abbrev pub pieceRefusals : List ℕ
+pieceRefusals = 6 ∷ 2 ∷ 7 ∷ 8 ∷ []
+
+-- `klov_strict_end`
+abbrev pub strictRefusals : List ℕ
+strictRefusals = 6 ∷ 3 ∷ 13 ∷ 14 ∷ []
+
+-- `klov_lenient_end`
+abbrev pub lenientRefusals : List ℕ
+lenientRefusals = 3 ∷ []

@@ -1,0 +1,95 @@
+-- The sound states are those that open and the calls lead to, and no others.
+-- Assumes nothing.
+use Prim.Native.Nat.{ℕ, _+_, _≤_, _<_, min}
+use mathlib.Core.Path.{_≡_, sym, ap, ap₂, _∙_, subst}
+use mathlib.Core.List.{List, [], _++_}
+use mathlib.Core.Bool.{true, false, cond}
+use native.Mathlib.Omega.{arith}
+use borrow.Author.Tests.{le-leb, eq-eqb, ne-eqb}
+use lib.ListN.{length}
+use lib.Dec.{eqb}
+use Rattle.tables.proofs.Cases.{by-equal, by-test}
+use Rattle.blocks.specs.Places.{limit}
+use Rattle.blocks.specs.Headers.{Bytes}
+use Rattle.refusals.specs.Said.{answers, refusal}
+use Rattle.refusals.proofs.Said.{by-said, passed}
+use Rattle.hold.proofs.Ready.{ready-within}
+use Rattle.reader.specs.State.{State, isKind, isDss, startOf, blocksIn, announcedBy, readyBy, opened, owed, headerDone, Sound}
+use Rattle.reader.specs.Calls.{openSaid, afterOpen, brings, pieceSaid, afterPiece, strictSaid, afterStrict, lenientSaid, afterLenient, Reachable, by-open, by-piece, by-strict, by-lenient}
+use Rattle.reader.proofs.Opened.{opened-sound}
+use Rattle.reader.proofs.Piecing.{next-sound}
+use Rattle.reader.proofs.Ends.{ended-sound}
+use Rattle.reader.proofs.Draining.{drained-sound}
+use Rattle.reader.proofs.Folding.{holding, lighter}
+
+-- a call leads from a sound state to a sound one
+after-piece : (s : State) (piece : List ℕ) (room : ℕ) → Bytes piece → Sound s → Sound (afterPiece s piece (pieceSaid s piece room))
+after-piece s piece room bytes sound =
+    by-said (pieceSaid s piece room)
+    (λ n e. rw e (next-sound s piece sound bytes room e))
+    (λ why e. rw e sound)
+
+after-strict : (s : State) → Sound s → Sound (afterStrict s (strictSaid s))
+after-strict s sound = by-said (strictSaid s) (λ n e. rw e (ended-sound s n sound e)) (λ why e. rw e sound)
+
+after-lenient : (s : State) (room : ℕ) → Sound s → Sound (afterLenient s (lenientSaid s room))
+unfolding lenientSaid
+after-lenient s room sound =
+    by-test (headerDone s)
+    (λ full. rw full (drained-sound s (min room (owed s)) sound (omega arith) full))
+    (λ cut. rw cut sound)
+
+-- what open and the calls lead to is sound
+pub reachable-sound : {s : State} → Reachable s → Sound s
+reachable-sound (by-open kind) = opened-sound kind
+reachable-sound (by-piece {s} piece room bytes before) = after-piece s piece room bytes (reachable-sound before)
+reachable-sound (by-strict {s} before) = after-strict s (reachable-sound before)
+reachable-sound (by-lenient {s} room before) = after-lenient s room (reachable-sound before)
+
+module _ (s : State) (sound : Sound s) where
+  -- a fresh reader that is given all bytes at once
+  abbrev given : State
+  given = holding (opened (s .kind)) (s .bytes)
+
+  abbrev room : ℕ
+  room = brings (opened (s .kind)) (s .bytes)
+
+  opened-is : afterOpen (s .kind) (openSaid (s .kind)) ≡ opened (s .kind)
+  unfolding openSaid
+  opened-is = rw (sound .kind-is)
+
+  given-said : pieceSaid (opened (s .kind)) (s .bytes) room ≡ answers room
+  unfolding pieceSaid
+  given-said = simp (le-leb (length (opened (s .kind) .bytes) + length (s .bytes)) limit (omega (arith, sound .small)), sound .fit, le-leb room room (omega arith))
+
+  given-reachable : Reachable given
+  given-reachable =
+      subst Reachable (ap (afterPiece (opened (s .kind)) (s .bytes)) given-said)
+      (by-piece (s .bytes) room (sound .bytes-are) (subst Reachable opened-is (by-open (s .kind))))
+
+  -- is ended leniently with room for what was drained
+  left : min (s .drained) (owed given) ≡ s .drained
+  left = omega (arith, sound .among)
+
+  ended-said : headerDone s ≡ true → lenientSaid given (s .drained) ≡ answers (s .drained)
+  unfolding lenientSaid
+  ended-said full = simp (full, left)
+
+  ended-reachable : headerDone s ≡ true → cond (eqb (s .drained) (owed given)) 2 1 ≡ s .phase → Reachable s
+  ended-reachable full phase-is =
+      let many : 0 + s .drained ≡ s .drained = omega arith in
+      let same : afterLenient given (answers (s .drained)) ≡ s = ap₂ (lighter s) many phase-is in
+      subst Reachable (ap (afterLenient given) (ended-said full) ∙ same) (by-lenient (s .drained) given-reachable)
+
+  -- so every sound state is led to
+  pub sound-reachable : Reachable s
+  sound-reachable =
+      by-equal (s .phase) 0
+      (λ taking. subst Reachable (ap₂ (lighter s) (sym (sound .taking taking)) (sym taking)) given-reachable)
+      (λ done.
+      let full = sound .header done in
+      by-equal (s .phase) 1
+      (λ draining. ended-reachable full (simp (ne-eqb (s .drained) (owed given) (λ e. omega (arith, sound .draining draining)), draining)))
+      (λ not-draining.
+      let ended : s .phase ≡ 2 = omega (arith, sound .phases) in
+      ended-reachable full (simp (eq-eqb (s .drained) (owed given) (omega (arith, sound .ended ended, sound .among)), ended))))

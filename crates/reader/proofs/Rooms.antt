@@ -1,0 +1,124 @@
+-- When there is room for a piece, and how much always suffices; and what the numbers beside a reader's refusals tell.
+-- Assumes nothing.
+use Prim.Native.Nat.{ℕ, _+_, _*_, _/_, _%_, _≤_, _<_}
+use mathlib.Core.Path.{_≡_, sym, ap, _∙_}
+use mathlib.Core.List.{List, _++_}
+use mathlib.Core.Bool.{true, false, not, cond}
+use native.Mathlib.Omega.{arith}
+use borrow.Author.Tests.{le-leb, lt-leb, leb-true, leb-false, eqb-true, eqb-false}
+use lib.ListN.{length, length-append}
+use lib.Dec.{eqb, leb}
+use Rattle.tables.proofs.Cases.{by-order, by-test}
+use Rattle.blocks.specs.Places.{limit, wholeBlocks}
+use Rattle.blocks.specs.Headers.{Bytes, announcedIn}
+use Rattle.blocks.proofs.Headers.{announced-none, announced-grows, announced-kept}
+use Rattle.refusals.specs.Said.{answers, refuses, demand}
+use Rattle.refusals.proofs.Said.{not-both, by-demand}
+use Rattle.hold.proofs.Ready.{ready-within}
+use Rattle.reader.specs.State.{State, isKind, isDss, startOf, blocksIn, fitsBy, owed, headerFull, Sound}
+use Rattle.reader.specs.Calls.{openSaid, brings, pieceSaid, strictSaid, inBlock, strictBy}
+use Rattle.reader.proofs.Laws.{bytes-joined}
+
+-- the whole blocks of an input announce the same in a longer one
+announced-same : (f rest : List ℕ) (a : ℕ) → announcedIn f a (wholeBlocks (length f) a) ≡ announcedIn (f ++ rest) a (wholeBlocks (length f) a)
+announced-same f rest a =
+    by-order (length f) a
+    (λ short. let none : wholeBlocks (length f) a ≡ 0 = omega arith in rw none (announced-none f a ∙ sym (announced-none (f ++ rest) a)))
+    (λ full. announced-kept f rest a (wholeBlocks (length f) a) (omega arith))
+
+module _ (s : State) (piece : List ℕ) where
+  -- Where a reader takes pieces, the bytes joined are within the limit and every block fits, a piece is taken exactly if there is room for all
+  -- that it brings out, and is otherwise refused by 8 with how many packets that are.
+  pub room-decides : (room : ℕ) → s .phase ≡ 0 → length (s .bytes) + length piece ≤ limit → fitsBy (s .kind) (s .bytes ++ piece) ≡ true
+      → (brings s piece ≤ room → pieceSaid s piece room ≡ answers (brings s piece))
+      × (room < brings s piece → pieceSaid s piece room ≡ refuses 8 (brings s piece))
+  unfolding pieceSaid
+  room-decides room taking small fit =
+      let within = le-leb (length (s .bytes) + length piece) limit small in (
+        (λ roomy. simp (taking, within, fit, le-leb (brings s piece) room roomy)),
+        (λ full. simp (taking, within, fit, lt-leb (brings s piece) room full)),
+      )
+
+  -- what is known of a piece that is refused by 8
+  eight-says : (room n : ℕ) → pieceSaid s piece room ≡ refuses 8 n
+      → (s .phase ≡ 0) × (length (s .bytes) + length piece ≤ limit) × (fitsBy (s .kind) (s .bytes ++ piece) ≡ true) × (room < brings s piece)
+      × (brings s piece ≡ n)
+  unfolding pieceSaid
+  eight-says room n e =
+      by-demand (eqb (s .phase) 0) e
+      (λ taking e.
+      by-demand (leb (length (s .bytes) + length piece) limit) e
+      (λ within e.
+      by-demand (fitsBy (s .kind) (s .bytes ++ piece)) e
+      (λ fit e.
+      by-demand (leb (brings s piece) room) e (λ roomy e. absurd (not-both (sym e)))
+      (λ full six is. (eqb-true (s .phase) 0 taking, leb-true _ limit within, fit, leb-false (brings s piece) room full, is)))
+      (λ no seven is. absurd (omega (arith, seven))))
+      (λ no two is. absurd (omega (arith, two))))
+      (λ no six is. absurd (omega (arith, six)))
+
+  -- The number beside 8 is more than there was room for, and it is enough: with so much room the same piece is taken, and that many come out.
+  pub eight-is-enough : (room n : ℕ) → pieceSaid s piece room ≡ refuses 8 n
+      → (room < n) × ((enough : ℕ) → n ≤ enough → pieceSaid s piece enough ≡ answers n)
+  eight-is-enough room n e =
+      let v = eight-says room n e in (
+        omega (arith, v .3, v .4),
+        (λ enough roomy. room-decides enough (v .0) (v .1) (v .2) .0 (omega (arith, v .4)) ∙ ap answers (v .4)),
+      )
+
+  -- what a piece brings out was owed before it, or is announced by a block that it completes
+  most-brought : Sound s → Bytes piece → s .phase ≡ 0 → brings s piece ≤ owed s + 255 * ((length piece + 511) / 512)
+  most-brought sound bytes taking =
+      let f = s .bytes ++ piece in
+      let a = startOf (s .kind) in
+      let had = blocksIn (s .kind) (s .bytes) in
+      let all = blocksIn (s .kind) f in
+      let long = length-append (s .bytes) piece in
+      omega (
+        arith,
+        long,
+        sound .taking taking,
+        announced-same (s .bytes) piece a,
+        announced-grows f a had all (bytes-joined (s .bytes) piece (sound .bytes-are) bytes) (omega (arith, long)),
+        ready-within (isDss (s .kind)) f a all,
+      )
+
+  -- Room that always suffices: for what was owed before the piece, and for 255 packets of each block that so many bytes can complete.
+  pub ample-room : Sound s → Bytes piece → (room : ℕ) → owed s + 255 * ((length piece + 511) / 512) ≤ room → (n : ℕ)
+      → pieceSaid s piece room ≡ refuses 8 n → ⊥
+  ample-room sound bytes room ample n e =
+      let v = eight-says room n e in
+      omega (arith, ample, v .3, most-brought sound bytes (v .0))
+
+-- why a strict end is refused
+by-strict : {X : Type 0} (phase a long owed m n : ℕ) → strictBy phase a long owed ≡ refuses m n → (6 ≡ m → X) → (3 ≡ m → X)
+    → (13 ≡ m → (inBlock a long ≡ 0 → ⊥) → inBlock a long ≡ n → X) → (14 ≡ m → (owed ≡ 0 → ⊥) → owed ≡ n → X) → X
+unfolding strictBy
+by-strict phase a long owed m n e six three thirteen fourteen =
+    by-demand (not (eqb phase 1)) e
+    (λ goes-on e.
+    by-test (eqb phase 2) (λ ended. absurd (not-both (sym (rw ended at e))))
+    (λ takes.
+    by-demand (headerFull a long) (rw takes at e)
+    (λ full e.
+    by-demand (eqb (inBlock a long) 0) e
+    (λ whole e. by-demand (eqb owed 0) e (λ none e. absurd (not-both (sym e))) (λ some is beside. fourteen is (eqb-false owed 0 some) beside))
+    (λ cut is beside. thirteen is (eqb-false (inBlock a long) 0 cut) beside))
+    (λ cut is beside. three is)))
+    (λ drains is beside. six is)
+
+-- The numbers beside 10, 13 and 14: the kind that there is not, how many bytes are there of a block that is not whole, and the frames owed.
+pub ten-tells : (kind n : ℕ) → openSaid kind ≡ refuses 10 n → (isKind kind ≡ false) × (n ≡ kind)
+unfolding openSaid
+ten-tells kind n e = by-demand (isKind kind) e (λ known e. absurd (not-both (sym e))) (λ unknown ten is. (unknown, sym is))
+
+pub thirteen-tells : (s : State) (n : ℕ) → strictSaid s ≡ refuses 13 n
+    → (length (s .bytes) ≡ startOf (s .kind) + 512 * blocksIn (s .kind) (s .bytes) + n) × (0 < n) × (n < 512)
+thirteen-tells s n e =
+    by-strict (s .phase) (startOf (s .kind)) (length (s .bytes)) (owed s) 13 n e (λ is. absurd (omega (arith, is))) (λ is. absurd (omega (arith, is)))
+    (λ is some inside. (omega (arith, some, inside), omega (arith, some, inside), omega (arith, inside))) (λ is some owes. absurd (omega (arith, is)))
+
+pub fourteen-tells : (s : State) (n : ℕ) → strictSaid s ≡ refuses 14 n → (n ≡ owed s) × (0 < n)
+fourteen-tells s n e =
+    by-strict (s .phase) (startOf (s .kind)) (length (s .bytes)) (owed s) 14 n e (λ is. absurd (omega (arith, is))) (λ is. absurd (omega (arith, is)))
+    (λ is some inside. absurd (omega (arith, is))) (λ is some owes. (sym owes, omega (arith, some, owes)))
