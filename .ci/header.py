@@ -2,7 +2,7 @@
 crates/klovdrun and the structs that they answer say.
 
 Reads the exports' signatures and the structs from the Rattle sources, writes what C and Rust must say of them, and compares: names, order,
-types, sizes, constants, and the functions that the archive has. Rests on the sources' own layout, which `rt fmt` keeps, and on the
+types, sizes, constants, the refusals of each call, and the functions that the archive has. Rests on the sources' own layout, which `rt fmt` keeps, and on the
 programs that the environment names as CC and NM.
 """
 import os
@@ -18,6 +18,7 @@ CONSTANTS = {"LIMIT": "blocks::LIMIT", "PACKET": "packets::PACKET", "FRAME": "fr
 IN_HEADER = ("LIMIT", "PACKET", "FRAME", "PAYLOAD", "QP_WORDS", "QP7_WORDS")
 IN_RUST = ("LIMIT", "PACKET", "FRAME", "PAYLOAD", "BLOCK", "QP_WORDS", "QP7_WORDS")
 BESIDE = {2: "LIMIT", 7: "HOLD"}  # refusals whose number beside is a constant
+LISTS = ("crates/klovdrun/specs/Refusals.antt", "crates/tally/specs/Tallies.antt")  # where the exports' lists of refusals are defined
 wrong = []
 
 
@@ -94,6 +95,23 @@ def rust_parameters(name, kind):
     return [f"{name}: {kind}"]
 
 
+def refusals():
+    """The numbers that each export refuses by, in order, as the definitions list them. The comment over a list names its exports."""
+    found, pattern = {}, r"^(-- [^\n]*)\nabbrev pub (\w+)Refusals : List ℕ\n\2Refusals = ([\d ∷]*)\[\]$"
+    for path in LISTS:
+        for comment, name, numbers in re.findall(pattern, text(path), re.M):
+            for export in re.findall(r"`(klov_\w+)`", comment) or [f"klov_{name}"]:
+                found[export] = [int(number) for number in re.findall(r"\d+", numbers)]
+    return found
+
+
+def told(header, export):
+    """The numbers that the header's comment over a declaration gives: those after the export's own name, if it is there, and else the first."""
+    comment = re.findall(r"/\*((?:(?!\*/).)*)\*/(?:(?!/\*).)*?\b" + export + r"\(", header, re.S)[-1]
+    found = re.search(r"[Rr]efusals?[\s*]+(\d[\d,\s*]*)", comment[max(comment.find(f"{export}:"), 0):])
+    return [int(number) for number in re.findall(r"\d+", found.group(1))] if found else []
+
+
 def compare(where, expected, found):
     for line in expected:
         if line not in found:
@@ -123,7 +141,10 @@ def check_c(header):
         check_constant(header, rf"#define KLOV_{name} (\w+)u", constant(name))
     if layout("Opened")[2][1] != ("reader", layout("Answer")[0]):
         say("klov_opened", "the reader right after the answer", layout("Opened")[2])
-    for number in range(1, 15):
+    for export, _, _ in exports():
+        if told(header, export) != refusals().get(export, []):
+            say(f"header, {export}", f"refusals {refusals().get(export, [])}", told(header, export))
+    for number in sorted(set(sum(refusals().values(), []))):
         line = re.search(rf"^ \* +{number}  \S.*$", header, re.M)
         if not line:
             say("header", f"a line for refusal {number}", "none")
@@ -159,6 +180,11 @@ def check_rust(source, root):
         compare("Rust " + name, fields(name), re.findall(r"(\w+): (\w+),", inside))
 
 
+def check_texts(source):
+    """The Rust crate has a text for each refusal that there is, and for no other."""
+    compare("Rust texts", sorted(set(sum(refusals().values(), []))), [int(number) for number in re.findall(r"^ +(\d+) => ", source, re.M)])
+
+
 def check_archive(archive):
     listed = subprocess.run([os.environ.get("NM", "nm"), archive], capture_output=True, text=True, check=True).stdout
     compare("archive", sorted(name for name, _, _ in exports()), sorted(re.findall(r" T (klov_\w+)$", listed, re.M)))
@@ -181,6 +207,7 @@ def check_compiled(path):
 def main():
     check_c(text(sys.argv[1]))
     check_rust(text(sys.argv[2] + "/raw.rs"), text(sys.argv[2] + "/lib.rs"))
+    check_texts(text(sys.argv[2] + "/error.rs"))
     check_compiled(sys.argv[1])
     if len(sys.argv) > 3:
         check_archive(sys.argv[3])

@@ -106,7 +106,8 @@ klov_answer klov_payload(const uint8_t *file, size_t file_len, size_t block);
 
 /* All packets of an SP file, KLOV_PACKET bytes each, and for each how many bytes of its read came from the file. A read has 42 bytes, or 40
  * if it is swapped, and a packet with fewer is short; which reads are swapped the block headers say, so that a count of 40 alone does
- * not tell. first: packets. Room is the smaller of out_len / 42 and counts_len. Refusals 1, 2, 3, for DS2 11, then 8. */
+ * not tell. first: packets. Room is the smaller of out_len / 42 and counts_len. klov_demux_dss: refusals 1, 2, 3, 8. klov_demux_ds2_sp:
+ * refusals 1, 2, 3, 11, 8. */
 klov_answer klov_demux_dss(const uint8_t *file, size_t file_len, uint8_t *out, size_t out_len, uint8_t *counts, size_t counts_len);
 klov_answer klov_demux_ds2_sp(const uint8_t *file, size_t file_len, uint8_t *out, size_t out_len, uint8_t *counts, size_t counts_len);
 
@@ -115,7 +116,7 @@ klov_answer klov_demux_ds2_sp(const uint8_t *file, size_t file_len, uint8_t *out
 klov_answer klov_demux_ds2_qp(const uint8_t *file, size_t file_len, uint32_t *table, size_t table_len);
 
 /* All records of a QP7 file, a word each: place in the payload stream; and all segments, KLOV_QP7_WORDS words each: first record,
- * records, reset. first: records; second: segments. Rooms are records_len and segments_len / KLOV_QP7_WORDS. Refusals 1, 2, 3, 11, 4 or 5, 8,
+ * records, reset. first: records; second: segments. Rooms are records_len and segments_len / KLOV_QP7_WORDS. Refusals 1, 2, 3, 11, 4, 5, 8,
  * 9. */
 klov_answer klov_demux_ds2_qp7(const uint8_t *file, size_t file_len, uint32_t *records, size_t records_len, uint32_t *segments, size_t segments_len);
 
@@ -129,7 +130,7 @@ klov_answer klov_frame(uint64_t start, uint64_t length, uint64_t k);
 klov_answer klov_fetch(const uint8_t *file, size_t file_len, size_t stream_place, size_t size, uint8_t *scratch, size_t scratch_len);
 klov_answer klov_show(const uint8_t *file, size_t file_len, size_t stream_place, size_t size, const uint8_t *scratch, size_t scratch_len);
 
-/* What the whole reading of a file of any kind would hand out, in numbers. Refusals 1, 2, 3, 4 or 5. */
+/* What the whole reading of a file of any kind would hand out, in numbers. Refusals 1, 2, 3, 4, 5. */
 klov_tallied klov_tally(const uint8_t *file, size_t file_len);
 
 /* A fresh reader of SP files in pieces: kind 0 for DS2, 2 or 3 for DSS with that first byte. Refusal 10; the reader is then an ended one. */
@@ -138,10 +139,10 @@ klov_opened klov_open(uint64_t kind);
 /* A reader's calls, which advance it where it stands. first: packets handed out, as in the whole readings; second: frames owed afterwards,
  * in refused answers too, so that an empty piece asks it in any state.
  *
- * A piece, src, is taken whole or refused: 6, 2, 7, 8. */
+ * A piece, src, is taken whole or refused. Refusals 6, 2, 7, 8. */
 klov_answer klov_piece(klov_reader *reader, const uint8_t *src, size_t src_len, uint8_t *out, size_t out_len, uint8_t *counts, size_t counts_len);
 
-/* The strict end succeeds with no packets, and has then ended the reader, or refuses: 6, 3, 13, 14. On no input it succeeds. */
+/* The strict end succeeds with no packets, and has then ended the reader. Refusals 6, 3, 13, 14. On no input it succeeds. */
 klov_answer klov_strict_end(klov_reader *reader);
 
 /* The lenient end drops a block that is not whole, and hands out packets that are owed, zeros where the file has no bytes, as many as there

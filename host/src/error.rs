@@ -1,10 +1,10 @@
-//! Why a call refuses. It rests on the archive's refusals, 1 to 14, each with a number beside it.
+//! Why a call refuses. It rests on the archive's refusals, each with a number beside it; which call refuses by which the header lists.
 use std::fmt;
 
 /// A refusal: its number, and the number beside it. What was lent to the refused call, and a reader, are as they were.
 #[derive(Debug, Clone, Copy, PartialEq, Eq)]
 pub struct Refusal {
-    /// Why, 1 to 14.
+    /// Why, by its number in the header's list.
     pub number: u64,
     /// What goes with it: a place, a size, how many are needed; 0 where nothing does.
     pub beside: u64,
