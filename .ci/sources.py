@@ -11,17 +11,8 @@ import sys
 from dataclasses import dataclass
 from functools import cache
 
-NAMED = re.compile(r"`([^`]+)` in `(crates/[^`]+)`")
+NAMED = re.compile(r"((?:`[^`]+`,? )+)in `(crates/[^`]+)`")
 DEMANDS = "## The demands, and what says them\n"
-# Taken as what STATEMENTS.md says first until it has the section DEMANDS; to be deleted then, with its use below.
-UNTIL_THEN = """`none-uncounted` in `crates/reader/proofs/Counted.antt`, `first-packets` in `crates/reader/proofs/Counted.antt`,
-`handed-with-owed` in `crates/reader/proofs/Counted.antt`, `owed-to-zero` in `crates/reader/proofs/Counted.antt`,
-`pieces-are-the-whole-call` in `crates/reader/proofs/Equal.antt`, `totals-announced` in `crates/qp/proofs/Theorems.antt`,
-`no-frame-uncounted` in `crates/qp/proofs/Theorems.antt`, `records-announced` in `crates/qp7/proofs/Theorems.antt`,
-`demux_dss` in `crates/sp/src/lib.rt`, `demux_ds2` in `crates/sp/src/lib.rt`, `detect_format` in `crates/detect/src/lib.rt`,
-`open` in `crates/reader/src/lib.rt`, `piece` in `crates/reader/src/lib.rt`, `strict_end` in `crates/reader/src/lib.rt`,
-`lenient_end` in `crates/reader/src/lib.rt`, `owed` in `crates/reader/src/lib.rt`, `room-decides` in `crates/sp/proofs/Theorems.antt`,
-`refused-changes-nothing` in `crates/sp/proofs/Theorems.antt`"""
 MARKED = re.compile(r" *((?:(?:abbrev|unfoldable|pub|record|data) )*)(\S+)(?: |$)")
 RATTLE = re.compile(r'( *)(pub )?(extern "C" )?(fn|struct|enum|const|impl) (\w+)')
 CLAUSE = re.compile(r"^ *(requires|ensures)(?: \w+)? \{(.*?)\}(?=\n *(?:requires|ensures)\b|\Z)", re.M | re.S)
@@ -80,13 +71,13 @@ def crates() -> dict[str, list[str]]:
 
 
 def named(text: str) -> list[tuple[str, str]]:
-    """What a page names as `name` in `file`, each once."""
-    return list(dict.fromkeys(NAMED.findall(text)))
+    """What a page names as `name` in `file`, or as `name`, `name` in `file`, each once."""
+    return list(dict.fromkeys((name, path) for names, path in NAMED.findall(text) for name in re.findall(r"`([^`]+)`", names)))
 
 
 def demands(text: str) -> str:
     """The section of STATEMENTS.md that says first what is demanded and names the headline theorems."""
-    return text.split(DEMANDS, 1)[1].split("\n## ", 1)[0] if DEMANDS in text else UNTIL_THEN
+    return text.split(DEMANDS, 1)[1].split("\n## ", 1)[0]
 
 
 def those(text: str) -> list[Declaration]:

@@ -1,16 +1,16 @@
-"""statements.py FILE: holds FILE, docs/STATEMENTS.md, against the tree.
+"""statements.py STATEMENTS PROGRAMS: holds docs/STATEMENTS.md and docs/WRONG-PROGRAMS.md against the tree.
 
-Whatever it names as `name` in `file` stands there: a theorem or definition that is `pub`, or a function that has an `ensures`. Under each
-heading that begins with a number every row of the table names at least one. Under the last heading every wrong program of
-crates/*/must-fail is named, as `crate/program`, and no other. What the page quotes, between fences, is a whole statement
-of those that it names, line breaks, comments and `pub` left aside. Prints how many were found, and what was not.
+Whatever STATEMENTS names as `name` in `file` stands there: a theorem or definition that is `pub`, or a function that has an `ensures`. Under
+each heading that begins with a number every row of the table names one at least and six at most. What the page quotes, between fences, is a
+whole statement of those that it names, line breaks, comments and `pub` left aside. In PROGRAMS every wrong program of crates/*/must-fail
+is named, as `crate/program`, and no other. Prints how many were found, and what was not.
 """
 import glob
 import re
 import sys
 
 import edits
-from sources import NAMED, Declaration, bare, declared, read
+from sources import Declaration, bare, declared, named, read
 
 FENCED = re.compile(r"^```\w*\n(.*?)^```$", re.M | re.S)
 PROGRAM = re.compile(r"`([a-z0-9_]+/[a-z0-9_]+)`")
@@ -38,7 +38,7 @@ def quotable(one: Declaration) -> set[str]:
 
 def misquoted(text: str) -> list[str]:
     """The paragraphs of quotes that are not what something says that is named."""
-    said = {each for name, path in NAMED.findall(text) if name in declared(path) for each in quotable(declared(path)[name])}
+    said = {each for name, path in named(text) if name in declared(path) for each in quotable(declared(path)[name])}
     quoted = [one_line(paragraph) for quote in FENCED.findall(text) for paragraph in quote.split("\n\n")]
     return [quote for quote in quoted if quote not in said]
 
@@ -50,14 +50,14 @@ def rows(section: str) -> list[str]:
 def main() -> int:
     text = read(sys.argv[1])
     sections = re.split(r"^## ", text, flags=re.M)[1:]
-    names = NAMED.findall(text)
+    names = named(text)
     wrong = [f"no {name} in {path}" for name, path in names if not stands(name, path)]
     wrong += [f"a quote that is not in the sources: {quote[-90:]}" for quote in misquoted(text)]
     in_rows = [row for section in sections if section[0].isdigit() for row in rows(section)]
-    wrong += [f"a row that names nothing: {row[:60]}" for row in in_rows if not NAMED.search(row)]
-    named, programs = set(PROGRAM.findall("\n".join(rows(sections[-1])))), wrong_programs()
-    wrong += [f"a wrong program that is not named: {program}" for program in sorted(programs - named)]
-    wrong += [f"no wrong program {program}" for program in sorted(named - programs)]
+    wrong += [f"a row that names none, or more than six: {row[:60]}" for row in in_rows if not 1 <= len(named(row)) <= 6]
+    listed, programs = set(PROGRAM.findall("\n".join(rows(read(sys.argv[2]))))), wrong_programs()
+    wrong += [f"a wrong program that is not named: {program}" for program in sorted(programs - listed)]
+    wrong += [f"no wrong program {program}" for program in sorted(listed - programs)]
     return edits.report("statements", f"{len(names)} declarations and {len(programs)} wrong programs", wrong, bool(in_rows))
 
 
