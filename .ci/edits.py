@@ -3,7 +3,8 @@
 An edit has one wrong program or several, each in another function: a line `wrong: NAME`, what is wrong with it, a line `refused: F`, and its
 replacements. F is the function that is not proved then, as a path of its crate, or a law or theorem. rt asks that the edit is refused; here
 each of its wrong programs is: F is to be refused by a fact of its own, and not since something that it rests on is refused. An edit that only
-makes a proof unfit for its code shows nothing, and is wrong too. Prints how many there are, and what is wrong.
+makes a proof unfit for its code shows nothing, and is wrong too. Prints how many there are, how many of them change no code but a contract, how many
+a definition, and what is wrong.
 """
 import glob
 import re
@@ -16,17 +17,34 @@ UNCOVERED = "; the borrow checker does not cover this function yet"
 
 
 def programs(path: str) -> list[dict]:
-    """The wrong programs of an edit: each one's name, what refuses it, and how many replacements it has. What stands before the first has no name."""
-    found = [{"name": "", "refused": [], "pairs": 0}]
+    """The wrong programs of an edit: each one's name, what refuses it, how many replacements it has, and what they replace, each as a file and
+    the old text. What stands before the first has no name."""
+    found, where, old = [{"name": "", "refused": [], "pairs": 0, "old": []}], "", ""
     with open(path, encoding="utf-8") as file:
         for line in file:
             if line.startswith("wrong:"):
-                found.append({"name": line[6:].strip(), "refused": [], "pairs": 0})
+                found.append({"name": line[6:].strip(), "refused": [], "pairs": 0, "old": []})
             elif line.startswith("refused:"):
                 found[-1]["refused"].append(line[8:].strip())
+            elif line.startswith("file: "):
+                where = line[6:].rstrip("\n")
+            elif line.startswith("old: "):
+                old = line[5:].rstrip("\n")
             elif line.startswith("new:"):
                 found[-1]["pairs"] += 1
+                found[-1]["old"].append((where, old))
     return found if found[0]["refused"] or found[0]["pairs"] else found[1:]
+
+
+def change(crate: str, where: str, old: str) -> str:
+    """What a replacement is in: a definition (or a proof), a contract, what is imported for contracts, or code. A contract has a line for each clause."""
+    if not where.startswith("src/"):
+        return "definition"
+    with open(f"crates/{crate}/{where}", encoding="utf-8") as file:
+        text = file.read()
+    at = text.find(old)
+    line = text[text.rfind("\n", 0, at) + 1 : at + len(old)].lstrip()
+    return "contract" if re.match(r"(requires|ensures) ", line) else "import" if line.startswith("ghost use ") else "code"
 
 
 def is_function(crate: str, what: str) -> bool:
@@ -80,19 +98,23 @@ def report(part: str, found: str, wrong: list[str], some: bool) -> int:
 
 
 def main() -> int:
-    wrong, names = [], []
+    wrong, names, contracts, definitions = [], [], 0, 0
     edits = sorted(glob.glob("crates/*/must-fail/*.edit"))
     for path in edits:
         crate, edit = path.split("/")[1], path.split("/")[3][:-5]
         found = programs(path)
         names += [f"{crate}/{program['name']}" for program in found]
+        changes = [{change(crate, *replaced) for replaced in program["old"]} for program in found]
+        contracts += sum("contract" in kinds and kinds <= {"contract", "import"} for kinds in changes)
+        definitions += sum("definition" in kinds for kinds in changes)
         try:
             with open(f"{sys.argv[1]}/{crate}/{edit}/.log", encoding="utf-8") as file:
                 wrong += faults(crate, edit, found, file.read())
         except OSError:
             wrong.append(f"{crate}/{edit} was not tried")
     wrong += [f"{name} is there twice" for name in sorted(set(names)) if names.count(name) > 1]
-    return report("edits", f"{len(names)} wrong programs in {len(edits)} edits", wrong, bool(names))
+    told = f"{len(names)} wrong programs in {len(edits)} edits, {contracts} of them in a contract alone and {definitions} in a definition"
+    return report("edits", told, wrong, bool(names))
 
 
 if __name__ == "__main__":
