@@ -37,7 +37,7 @@ def programs(path: str) -> list[dict]:
 
 
 def change(crate: str, where: str, old: str) -> str:
-    """What a replacement is in: a definition (or a proof), a contract, what is imported for contracts, or code. A contract has a line for each clause."""
+    """What a replacement is in: a definition (or a proof), a contract, of which each clause has a line, what is imported for contracts, or code."""
     if not where.startswith("src/"):
         return "definition"
     with open(f"crates/{crate}/{where}", encoding="utf-8") as file:

@@ -62,7 +62,8 @@ def of_log(log, names, remark):
     if lacks or not (machine and run and "all" in took):
         return None, f"the log lacks {', '.join(lacks) or 'the times of the gate'}"
     parts = "; ".join(f"{what} {seconds} s" for what, seconds in took.items() if what not in ("rt ci", "archive", "all"))
-    told = f"{machine.group(1)}: `rt ci` took {took['rt ci']} s, .ci/run in all {took['all']} s (then, in two lanes: {parts}; {run.group(1)}).{remark}"
+    whole = f"`rt ci` took {took['rt ci']} s, .ci/run in all {took['all']} s (then, in two lanes: {parts}; {run.group(1)})"
+    told = f"{machine.group(1)}: {whole}.{remark}"
     return told, {name: [int(proved[name]), sum(tried[name])] for name in names}
 
 
@@ -70,7 +71,7 @@ def of_page(page):
     """The same, as the page itself has them."""
     told = page[len(HEAD):].split("\n\n")[0]
     rows = [line.strip("| ").split(" | ") for line in page.split("\n") if line.startswith("| ")]
-    return told, {row[0]: [int(cell.replace(",", "")) for cell in row[-2:]] for row in rows if row[-1][0].isdigit()}
+    return told, {row[0]: [int(cell.replace(",", "")) for cell in row[-2:]] for row in rows if row[-1][:1].isdigit()}
 
 
 def main():

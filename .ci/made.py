@@ -16,7 +16,8 @@ def kept(part: str, path: str, made: str, words: list[str], found: str, words_to
             old = file.read()
         if old != made:
             print(f"{part}: {path} is not what the sources say; python3 {' '.join(sys.argv)} {words_to_write}")
-            changed = [line for line in difflib.unified_diff(old.split("\n"), made.split("\n"), "old", "made", n=0, lineterm="") if line[0] in "+-"][2:]
+            lines = difflib.unified_diff(old.split("\n"), made.split("\n"), n=0, lineterm="")
+            changed = [line for line in lines if line[0] in "+-"][2:]
             for line in changed[:TOLD]:
                 print(f"{part}: {line[:140]}")
             return 1
