@@ -10,6 +10,8 @@ use crate::score::Score;
 use crate::{ends, whole};
 use std::time::Instant;
 
+const PIECE: usize = 8192;
+
 /// Blocks that announce, counted from the front, or back from the end: block, byte 0, byte 1, count.
 const PLACED: [(isize, u8, u8, u8); 6] =
     [(0, 0x8F, 3, 9), (1, 0x0F, 5, 3), (3, 0x8F, 200, 4), (262_144, 0x0F, 3, 5), (-2, 0x0F, 100, 2), (-1, 0x0F, 60, 4)];
@@ -39,16 +41,13 @@ pub fn compare(score: &mut Score) {
             score.file(format_args!("{length} bytes, {magic:?}, type {kind}"));
             whole(&Both::new(&file[..length]), dice, score);
         }
-        println!("  whole, {magic:?}, type {kind}, at the limit and one byte over it: {:.1} s", begun.elapsed().as_secs_f64());
+        eprintln!("  whole, {magic:?}, type {kind}, at the limit and one byte over it: {:.1} s", begun.elapsed().as_secs_f64());
         if kind == 0 && magic[0] == 2 {
             one_piece(&file, dice, score);
-            in_pieces(2, &file[..LIMIT], true, dice, score);
+            in_pieces(2, &file[..LIMIT], dice, score);
         }
     }
-    // Its millions of packets take the original half a minute under an emulator.
-    let beside = std::env::var("KLOVDRUN_EMULATOR").unwrap_or_default().is_empty();
-    let file = files::continuous(false, (LIMIT - 1536) / 512, dice);
-    in_pieces(0, &file, beside, dice, score);
+    in_pieces(0, &files::continuous(false, (LIMIT - 1536) / 512, dice), dice, score);
 }
 
 /// A DSS file in one piece, one byte too long and then not. The original is not asked: its time grows with the square of a piece.
@@ -60,16 +59,15 @@ fn one_piece(file: &[u8], dice: &mut Dice, score: &mut Score) {
     run.refuse(Name::Limit, [2, LIMIT as u64, 0, 0], file, (0, 0), score);
     run.give(&file[..LIMIT], dice, score);
     ends::all(&mut run, dice, score);
-    println!("  DSS in one piece, without the original: {:.1} s", begun.elapsed().as_secs_f64());
+    eprintln!("  DSS in one piece, without the original: {:.1} s", begun.elapsed().as_secs_f64());
 }
 
-/// Pieces up to the limit, and then one byte more. Where the original is beside, they are short ones.
-fn in_pieces(number: u64, file: &[u8], beside: bool, dice: &mut Dice, score: &mut Score) {
-    let (begun, size) = (Instant::now(), if beside { 8192 } else { 1 << 17 });
+/// Pieces up to the limit beside the original, short ones for its sake, and then one byte more.
+fn in_pieces(number: u64, file: &[u8], dice: &mut Dice, score: &mut Score) {
+    let begun = Instant::now();
     score.file(format_args!("{} bytes in pieces, kind {number}", file.len()));
     let mut run = Run::new(file, number, score);
-    run.theirs = run.theirs.filter(|_| beside);
-    for piece in file.chunks(size) {
+    for piece in file.chunks(PIECE) {
         run.give(piece, dice, score);
     }
     let owed = run.owed() as u64;
@@ -77,5 +75,5 @@ fn in_pieces(number: u64, file: &[u8], beside: bool, dice: &mut Dice, score: &mu
     let (packets, theirs) = (run.handed(), run.theirs.is_some());
     ends::all(&mut run, dice, score);
     let (with, seconds) = (if theirs { "beside" } else { "without" }, begun.elapsed().as_secs_f64());
-    println!("  kind {number} in pieces of {size} bytes, {packets} packets, {with} the original: {seconds:.1} s");
+    eprintln!("  kind {number} in pieces of {PIECE} bytes, {packets} packets, {with} the original: {seconds:.1} s");
 }
