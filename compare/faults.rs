@@ -179,7 +179,7 @@ pub fn compare(score: &mut Score) {
         let (said, error) = (String::from_utf8_lossy(&output.stdout), String::from_utf8_lossy(&output.stderr));
         let lines = if output.status.success() { said.lines() } else { error.lines() };
         let told: Vec<_> = lines.filter(|line| !line.starts_with("note:")).take(2).collect();
-        println!("  {}: {}", case.name, told.join(" "));
+        eprintln!("  {}: {}", case.name, told.join(" "));
         let listed = format!("{:?}", case.end);
         let seen = if ended(&case.end, &output, said.trim(), &error) { listed.clone() } else { told.join(" ") };
         score.original("the original's faults", listed, seen);

@@ -1,7 +1,8 @@
 // The original beside the archive: both are given the same files, and every result of every call is compared. It rests on the original as
 // compare/run builds it, on the archive through host/src/raw.rs, and on the recordings and the model of the host's tests.
 //
-// compare [FILES [SEED]]: so many generated files from that seed on; without arguments 100,000 of them, and the fixed parts too.
+// compare [FILES [SEED]]: so many generated files from that seed on; without arguments 100,000 of them, and the fixed parts too. What was
+// compared is printed at the end, and depends on no machine; what it took, and what is unexplained, goes to the other output.
 // compare fault NAME: one call of the original at which it faults, alone in its process.
 mod both;
 #[path = "../host/tests/common/mod.rs"]
@@ -69,10 +70,11 @@ fn guarded(score: &mut Score, part: impl FnOnce(&mut Score)) {
     }
 }
 
-fn timed(what: &str, score: &mut Score, part: impl FnOnce(&mut Score)) {
-    let (start, files) = (Instant::now(), score.files());
+fn timed(what: &'static str, score: &mut Score, part: impl FnOnce(&mut Score)) {
+    let start = Instant::now();
     guarded(score, part);
-    println!("{what}: {} files, {:.1} s", score.files() - files, start.elapsed().as_secs_f64());
+    let files = score.part(what);
+    eprintln!("{what}: {files} files, {:.1} s", start.elapsed().as_secs_f64());
 }
 
 fn main() {

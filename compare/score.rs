@@ -1,5 +1,5 @@
-// What was compared: how often each call, with the original and with the model, how many cases each named difference had, and what is
-// unexplained. It rests on the list of names in differences.rs.
+// What was compared: how many files each part had, how often each call, with the original and with the model, how many cases each named
+// difference had, and what is unexplained. It rests on the list of names in differences.rs.
 use crate::differences::{Name, NAMES};
 use std::collections::BTreeMap;
 use std::fmt::{Debug, Display};
@@ -19,6 +19,7 @@ pub struct Score {
     named: [u64; NAMES.len()],
     unexplained: u64,
     files: u64,
+    parts: Vec<(&'static str, u64)>,
     file: String,
 }
 
@@ -31,8 +32,11 @@ impl Score {
         let _ = write!(self.file, "{name}");
     }
 
-    pub fn files(&self) -> u64 {
-        self.files
+    /// The end of a part: how many files it had.
+    pub fn part(&mut self, what: &'static str) -> u64 {
+        let files = self.files - self.parts.iter().map(|(_, files)| files).sum::<u64>();
+        self.parts.push((what, files));
+        files
     }
 
     /// Our answer beside the original's.
@@ -70,13 +74,18 @@ impl Score {
             self.unexplained += 1;
             if self.unexplained <= TOLD {
                 let (expected, ours) = (beginning(&expected), beginning(&ours));
-                println!("UNEXPLAINED in {}: {call}: by {by} {expected}, here {ours}", self.file);
+                eprintln!("UNEXPLAINED in {}: {call}: by {by} {expected}, here {ours}", self.file);
             }
         }
     }
 
-    /// Prints the tables, and answers whether all is well. Where all parts were run, every name must have had a case.
+    /// Prints the tables, which compare/totals.txt keeps, and answers whether all is well. Where all parts were run, every name must have had a
+    /// case.
     pub fn close(&self, all_parts: bool) -> bool {
+        println!("{:>12}  files of each part", "");
+        for (what, files) in &self.parts {
+            println!("{files:12}  {what}");
+        }
         println!("{:>12} {:>12}  comparisons of each call: with the original, with the description", "original", "description");
         let mut calls: BTreeMap<_, [u64; 2]> = BTreeMap::new();
         for &(call, [original, model]) in &self.calls {
@@ -94,7 +103,7 @@ impl Score {
             absent += u64::from(cases == 0);
         }
         if all_parts && absent > 0 {
-            println!("{absent} names had no case");
+            eprintln!("{absent} names had no case");
         }
         let comparisons: u64 = calls.values().flatten().sum();
         let named: u64 = self.named.iter().sum();
