@@ -15,7 +15,7 @@ def kept(part: str, path: str, made: str, words: list[str], found: str, words_to
         with open(path, encoding="utf-8") as file:
             old = file.read()
         if old != made:
-            print(f"{part}: {path} is not what the sources say; python3 {' '.join(sys.argv)} {words_to_write}")
+            print(f"{part}: {path} is not what the sources say; it is written by python3 {' '.join(sys.argv)} {words_to_write}")
             lines = difflib.unified_diff(old.split("\n"), made.split("\n"), n=0, lineterm="")
             changed = [line for line in lines if line[0] in "+-"][2:]
             for line in changed[:TOLD]:
