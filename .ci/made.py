@@ -2,7 +2,7 @@
 import difflib
 import sys
 
-TOLD = 6
+TOLD = 40
 
 
 def kept(part: str, path: str, made: str, words: list[str], found: str, words_to_write: str = "write") -> int:

@@ -1,7 +1,7 @@
 -- What a host is told adds up: the packets that the calls have told and the frames owed that the last one tells are together all that was
 -- announced. Assumes nothing.
 use Prim.Native.Nat.{ℕ, _+_}
-use mathlib.Core.Path.{_≡_, sym, ap, _∙_}
+use mathlib.Core.Path.{_≡_, sym, _∙_}
 use mathlib.Core.List.{List, [], _++_, append-assoc, append-nil}
 use native.Mathlib.Omega.{arith}
 use Rattle.tables.proofs.Cases.{by-order}

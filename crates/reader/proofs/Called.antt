@@ -3,7 +3,6 @@
 use Prim.Native.Nat.{ℕ, _+_, _*_}
 use mathlib.Core.Path.{_≡_, refl, sym, ap, _∙_, subst}
 use mathlib.Core.List.{List, [], _∷_, _++_, append-assoc}
-use mathlib.Core.Bool.{cond}
 use native.Mathlib.Omega.{arith}
 use lib.ListN.{take}
 use lib.Dec.{eqb}
@@ -14,8 +13,7 @@ use Rattle.reader.specs.declared.Reader.{Reader}
 use Rattle.reader.specs.declared.Step.{Step}
 use Rattle.reader.specs.State.{State, owed, readerOf, Sound, Reached}
 use Rattle.reader.specs.Calls.{afterPiece, afterStrict, afterLenient}
-use Rattle.reader.specs.History as calls
-use Rattle.reader.specs.History.{StrictCall, LenientCall, Fed, Drained, more, strictly, Called, InTwo}
+use Rattle.reader.specs.History.{StrictCall, LenientCall, Fed, Drained, none, more, leniently, strictly, refused, Called, InTwo}
 use Rattle.reader.proofs.Laws.{steps-by, piece-accepted}
 use Rattle.reader.proofs.Folding.{kept-by}
 
@@ -40,18 +38,18 @@ end-phase s n e = by-test (eqb n (owed s)) (λ t. omega (arith, simp t at e)) (�
 
 after-end : {reader last : Reader} {pieces : List (List ℕ)} {n : ℕ} {packets entries : List ℕ} → Called reader pieces n packets entries last
     → (s : State) → reader ≡ readerOf s → Sound s → (s .phase ≡ 0 → ⊥) → Ended reader pieces n packets entries last
-after-end calls.none s e sound ended = record { no-pieces = refl; rooms = []; drained = calls.none }
-after-end (calls.piece {piece = piece} {n = n} out out′ counts counts′ step call said after) s e sound ended =
+after-end none s e sound ended = record { no-pieces = refl; rooms = []; drained = none }
+after-end (more {piece = piece} {n = n} out out′ counts counts′ step call said after) s e sound ended =
     absurd (ended (piece-accepted s piece (roomIn out counts) n (sym (call s e sound .steps .answer-is) ∙ said) .0))
-after-end (calls.lenient {n = n} out out′ counts counts′ step call said after) s e sound ended =
+after-end (leniently {n = n} out out′ counts counts′ step call said after) s e sound ended =
     let next = steps-by (afterLenient s) said (call s e sound .steps) in
     by-lenient out out′ counts counts′ step call said (after-end after (afterLenient s (answers n)) (next .reader-is) (next .sound) (end-phase s n))
-after-end (calls.strict {m = m} step call said after) s e sound ended =
+after-end (strictly {m = m} step call said after) s e sound ended =
     let next = steps-by (afterStrict s) said (call s e sound) in
     by-strict step call said (after-end after (afterStrict s (answers m)) (next .reader-is) (next .sound) (λ e. omega (arith, e)))
-after-end (calls.refused call after) s e sound ended =
+after-end (refused call after) s e sound ended =
     let v = after-end after s (kept-by call s e sound) sound ended in
-    record { no-pieces = v .no-pieces; rooms = v .rooms; drained = calls.refused call (v .drained) }
+    record { no-pieces = v .no-pieces; rooms = v .rooms; drained = refused call (v .drained) }
 
 -- a reader that was ended: all of it is the second part
 ended-in-two : {reader last : Reader} {pieces : List (List ℕ)} {n : ℕ} {packets entries : List ℕ} → Ended reader pieces n packets entries last
@@ -62,7 +60,7 @@ ended-in-two {reader} {n = n} {packets = packets} {entries = entries} v =
       n₁ = 0;
       packets₁ = [];
       entries₁ = [];
-      fed = subst (λ (pieces : List (List ℕ)). Fed reader pieces 0 [] [] reader) (sym (v .no-pieces)) calls.none;
+      fed = subst (λ (pieces : List (List ℕ)). Fed reader pieces 0 [] [] reader) (sym (v .no-pieces)) none;
       rooms = v .rooms;
       n₂ = n;
       packets₂ = packets;
@@ -75,8 +73,8 @@ ended-in-two {reader} {n = n} {packets = packets} {entries = entries} v =
 
 in-two-at : {reader last : Reader} {pieces : List (List ℕ)} {n : ℕ} {packets entries : List ℕ} → Called reader pieces n packets entries last
     → (s : State) → reader ≡ readerOf s → Sound s → InTwo reader pieces n packets entries last
-in-two-at calls.none s e sound = ended-in-two (record { no-pieces = refl; rooms = []; drained = calls.none })
-in-two-at (calls.piece {piece = piece} {n = n} out out′ counts counts′ step call said after) s e sound =
+in-two-at none s e sound = ended-in-two (record { no-pieces = refl; rooms = []; drained = none })
+in-two-at (more {piece = piece} {n = n} out out′ counts counts′ step call said after) s e sound =
     let next = steps-by (afterPiece s piece) said (call s e sound .steps) in
     let v = in-two-at after (afterPiece s piece (answers n)) (next .reader-is) (next .sound) in
     record {
@@ -94,22 +92,22 @@ in-two-at (calls.piece {piece = piece} {n = n} out out′ counts counts′ step 
       packets-are = ap (λ (l : List ℕ). take (42 * n) out′ ++ l) (v .packets-are) ∙ sym (append-assoc (take (42 * n) out′) (v .packets₁) (v .packets₂));
       entries-are = ap (λ (l : List ℕ). take n counts′ ++ l) (v .entries-are) ∙ sym (append-assoc (take n counts′) (v .entries₁) (v .entries₂));
     }
-in-two-at (calls.lenient {n = n} out out′ counts counts′ step call said after) s e sound =
+in-two-at (leniently {n = n} out out′ counts counts′ step call said after) s e sound =
     let next = steps-by (afterLenient s) said (call s e sound .steps) in
     let v = after-end after (afterLenient s (answers n)) (next .reader-is) (next .sound) (end-phase s n) in
     ended-in-two (by-lenient out out′ counts counts′ step call said v)
-in-two-at (calls.strict {m = m} step call said after) s e sound =
+in-two-at (strictly {m = m} step call said after) s e sound =
     let next = steps-by (afterStrict s) said (call s e sound) in
     let v = after-end after (afterStrict s (answers m)) (next .reader-is) (next .sound) (λ e. omega (arith, e)) in
     ended-in-two (by-strict step call said v)
-in-two-at (calls.refused call after) s e sound =
+in-two-at (refused call after) s e sound =
     let v = in-two-at after s (kept-by call s e sound) sound in
     record {
       middle = v .middle;
       n₁ = v .n₁;
       packets₁ = v .packets₁;
       entries₁ = v .entries₁;
-      fed = calls.refused call (v .fed);
+      fed = refused call (v .fed);
       rooms = v .rooms;
       n₂ = v .n₂;
       packets₂ = v .packets₂;

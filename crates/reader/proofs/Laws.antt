@@ -1,9 +1,9 @@
 -- Laws of states and answers: what is known of a call by what it said, that it has one outcome, and what is said when.
 -- Assumes nothing.
 use Prim.Native.Nat.{ℕ, _+_, _*_, _-_, _≤_, min}
-use mathlib.Core.Path.{_≡_, refl, sym, ap, ap₂, _∙_, subst}
+use mathlib.Core.Path.{_≡_, sym, ap, ap₂, _∙_, subst}
 use mathlib.Core.List.{List, _++_}
-use mathlib.Core.Bool.{Bool, true, false}
+use mathlib.Core.Bool.{true, false}
 use native.Mathlib.Omega.{arith}
 use borrow.Author.Tests.{le-leb, leb-true, eq-eqb, ne-eqb, eqb-true}
 use lib.ListN.{length, getD, take, List·getD-append}
@@ -14,7 +14,7 @@ use Rattle.blocks.specs.Places.{limit}
 use Rattle.blocks.specs.Headers.{Bytes, announcedIn}
 use Rattle.blocks.proofs.Headers.{announced-none}
 use Rattle.refusals.specs.declared.Refusal.{Refusal}
-use Rattle.refusals.specs.Said.{Said, answers, refuses, refusal, demand}
+use Rattle.refusals.specs.Said.{Said, answers, refuses, refusal}
 use Rattle.refusals.proofs.Said.{not-both, passed, by-demand, only-one, readFrom}
 use Rattle.sp.specs.declared.Demuxed.{Demuxed}
 use Rattle.sp.specs.declared.Demuxed.the-variants.{Packets, Refused}

@@ -1,9 +1,9 @@
 -- The sound states are those that open and the calls lead to, and no others.
 -- Assumes nothing.
-use Prim.Native.Nat.{ℕ, _+_, _≤_, _<_, min}
+use Prim.Native.Nat.{ℕ, _+_, min}
 use mathlib.Core.Path.{_≡_, sym, ap, ap₂, _∙_, subst}
-use mathlib.Core.List.{List, [], _++_}
-use mathlib.Core.Bool.{true, false, cond}
+use mathlib.Core.List.{List}
+use mathlib.Core.Bool.{true, cond}
 use native.Mathlib.Omega.{arith}
 use borrow.Author.Tests.{le-leb, eq-eqb, ne-eqb}
 use lib.ListN.{length}
@@ -11,10 +11,9 @@ use lib.Dec.{eqb}
 use Rattle.tables.proofs.Cases.{by-equal, by-test}
 use Rattle.blocks.specs.Places.{limit}
 use Rattle.blocks.specs.Headers.{Bytes}
-use Rattle.refusals.specs.Said.{answers, refusal}
-use Rattle.refusals.proofs.Said.{by-said, passed}
-use Rattle.hold.proofs.Ready.{ready-within}
-use Rattle.reader.specs.State.{State, isKind, isDss, startOf, blocksIn, announcedBy, readyBy, opened, owed, headerDone, Sound}
+use Rattle.refusals.specs.Said.{answers}
+use Rattle.refusals.proofs.Said.{by-said}
+use Rattle.reader.specs.State.{State, opened, owed, headerDone, Sound}
 use Rattle.reader.specs.Calls.{openSaid, afterOpen, brings, pieceSaid, afterPiece, strictSaid, afterStrict, lenientSaid, afterLenient, Reachable, by-open, by-piece, by-strict, by-lenient}
 use Rattle.reader.proofs.Opened.{opened-sound}
 use Rattle.reader.proofs.Piecing.{next-sound}

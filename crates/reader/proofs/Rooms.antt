@@ -1,9 +1,9 @@
 -- When there is room for a piece, and how much always suffices; and what the numbers beside a reader's refusals tell.
 -- Assumes nothing.
-use Prim.Native.Nat.{ℕ, _+_, _*_, _/_, _%_, _≤_, _<_}
+use Prim.Native.Nat.{ℕ, _+_, _*_, _/_, _≤_, _<_}
 use mathlib.Core.Path.{_≡_, sym, ap, _∙_}
 use mathlib.Core.List.{List, _++_}
-use mathlib.Core.Bool.{true, false, not, cond}
+use mathlib.Core.Bool.{true, false, not}
 use native.Mathlib.Omega.{arith}
 use borrow.Author.Tests.{le-leb, lt-leb, leb-true, leb-false, eqb-true, eqb-false}
 use lib.ListN.{length, length-append}
@@ -12,7 +12,7 @@ use Rattle.tables.proofs.Cases.{by-order, by-test}
 use Rattle.blocks.specs.Places.{limit, wholeBlocks}
 use Rattle.blocks.specs.Headers.{Bytes, announcedIn}
 use Rattle.blocks.proofs.Headers.{announced-none, announced-grows, announced-kept}
-use Rattle.refusals.specs.Said.{answers, refuses, demand}
+use Rattle.refusals.specs.Said.{answers, refuses}
 use Rattle.refusals.proofs.Said.{not-both, by-demand}
 use Rattle.hold.proofs.Ready.{ready-within}
 use Rattle.reader.specs.State.{State, isKind, isDss, startOf, blocksIn, fitsBy, owed, headerFull, Sound}

@@ -81,15 +81,15 @@ pub data Drained : Reader → List ℕ → ℕ → List ℕ → List ℕ → Rea
 -- any calls on a reader, one after another and in any order: these pieces were accepted, and n packets came out, by pieces and by ends
 pub data Called : Reader → List (List ℕ) → ℕ → List ℕ → List ℕ → Reader → Type 0 where
   none : {reader : Reader} → Called reader [] 0 [] [] reader
-  piece : {reader last : Reader} {piece : List ℕ} {rest : List (List ℕ)} {n m : ℕ} {packets entries : List ℕ}
+  more : {reader last : Reader} {piece : List ℕ} {rest : List (List ℕ)} {n m : ℕ} {packets entries : List ℕ}
       (out out′ counts counts′ : List ℕ) (step : Step) → PieceCall reader piece out out′ counts counts′ step
       → demuxedSays (step .answer) ≡ answers n → Called (step .reader) rest m packets entries last
       → Called reader (piece ∷ rest) (n + m) (take (42 * n) out′ ++ packets) (take n counts′ ++ entries) last
-  lenient : {reader last : Reader} {pieces : List (List ℕ)} {n m : ℕ} {packets entries : List ℕ}
+  leniently : {reader last : Reader} {pieces : List (List ℕ)} {n m : ℕ} {packets entries : List ℕ}
       (out out′ counts counts′ : List ℕ) (step : Step) → LenientCall reader out out′ counts counts′ step
       → demuxedSays (step .answer) ≡ answers n → Called (step .reader) pieces m packets entries last
       → Called reader pieces (n + m) (take (42 * n) out′ ++ packets) (take n counts′ ++ entries) last
-  strict : {reader last : Reader} {pieces : List (List ℕ)} {n m : ℕ} {packets entries : List ℕ} (step : Step) → StrictCall reader step
+  strictly : {reader last : Reader} {pieces : List (List ℕ)} {n m : ℕ} {packets entries : List ℕ} (step : Step) → StrictCall reader step
       → demuxedSays (step .answer) ≡ answers m → Called (step .reader) pieces n packets entries last
       → Called reader pieces n packets entries last
   refused : {reader next last : Reader} {pieces : List (List ℕ)} {n : ℕ} {packets entries : List ℕ} → Refuses reader next

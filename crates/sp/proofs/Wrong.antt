@@ -1,7 +1,7 @@
 -- Wrong programs that meet no contract of a whole SP call, given a file that shows it: one that refuses what there is room for, one whose
 -- packets are zeros, and one that touches no buffer. Assumes nothing.
 use Prim.Native.Nat.{ℕ, _+_, _*_, _≤_, _<_}
-use mathlib.Core.Path.{_≡_, sym, ap, _∙_, subst}
+use mathlib.Core.Path.{_≡_, sym, ap, _∙_}
 use mathlib.Core.List.{List}
 use lib.ListN.{getD}
 use Rattle.refusals.specs.declared.Refusal.{Refusal}
