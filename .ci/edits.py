@@ -3,8 +3,8 @@
 An edit has one wrong program or several, each in another function: a line `wrong: NAME`, what is wrong with it, a line `refused: F`, and its
 replacements. F is the function that is not proved then, as a path of its crate, or a law or theorem. rt asks that the edit is refused; here
 each of its wrong programs is: F is to be refused by a fact of its own, and not since something that it rests on is refused. An edit that only
-makes a proof unfit for its code shows nothing, and is wrong too. Prints how many there are, how many of them change no code but a contract, how many
-a definition, and what is wrong.
+makes a proof unfit for its code shows nothing, and is wrong too. Prints how many there are, how many of them change no code but a contract,
+how many a definition, and what is wrong.
 """
 import glob
 import re
@@ -97,24 +97,31 @@ def report(part: str, found: str, wrong: list[str], some: bool) -> int:
     return 1 if wrong or not some else 0
 
 
+def counted() -> str:
+    """How many wrong programs there are, and how many of them change a contract alone, or a definition."""
+    changes = [{change(path.split("/")[1], *replaced) for replaced in program["old"]} for path in every() for program in programs(path)]
+    contracts = sum("contract" in kinds and kinds <= {"contract", "import"} for kinds in changes)
+    definitions = sum("definition" in kinds for kinds in changes)
+    return f"{len(changes)} wrong programs, {contracts} of them in a contract alone and {definitions} in a definition"
+
+
+def every() -> list[str]:
+    return sorted(glob.glob("crates/*/must-fail/*.edit"))
+
+
 def main() -> int:
-    wrong, names, contracts, definitions = [], [], 0, 0
-    edits = sorted(glob.glob("crates/*/must-fail/*.edit"))
-    for path in edits:
+    wrong, names = [], []
+    for path in every():
         crate, edit = path.split("/")[1], path.split("/")[3][:-5]
         found = programs(path)
         names += [f"{crate}/{program['name']}" for program in found]
-        changes = [{change(crate, *replaced) for replaced in program["old"]} for program in found]
-        contracts += sum("contract" in kinds and kinds <= {"contract", "import"} for kinds in changes)
-        definitions += sum("definition" in kinds for kinds in changes)
         try:
             with open(f"{sys.argv[1]}/{crate}/{edit}/.log", encoding="utf-8") as file:
                 wrong += faults(crate, edit, found, file.read())
         except OSError:
             wrong.append(f"{crate}/{edit} was not tried")
     wrong += [f"{name} is there twice" for name in sorted(set(names)) if names.count(name) > 1]
-    told = f"{len(names)} wrong programs in {len(edits)} edits, {contracts} of them in a contract alone and {definitions} in a definition"
-    return report("edits", told, wrong, bool(names))
+    return report("edits", f"{counted()}, by {len(every())} edits", wrong, bool(names))
 
 
 if __name__ == "__main__":

@@ -18,8 +18,9 @@ Made by .ci/figures.py. The counts are those of the sources, and the gate compar
 """
 TAIL = """
 Seconds are those of one check on one core, as rt tells them; rt runs as many at once as there are cores. A crate's wrong programs are tried
-by its edits, under must-fail/: each edit costs a check of the whole crate. Lines that are blank or only a comment are not counted; `use` lines are, but for those
-that sources have for their contracts alone. Functions are all of a crate's, public or not; each is proved to meet its contract.
+by its edits, under must-fail/: each edit costs a check of the whole crate. Lines that are blank or only a comment are not counted; `use`
+lines are, but for those that sources have for their contracts alone. Functions are all of a crate's, public or not; each is proved to meet
+its contract.
 """
 COUNTS = ["functions", "code", "contracts", "definitions", "proof", "wrong programs", "edits"]
 SECONDS = ["seconds", "seconds of all edits"]

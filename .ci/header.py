@@ -2,8 +2,8 @@
 crates/klovdrun and the structs that they answer say.
 
 Reads the exports' signatures and the structs from the Rattle sources, writes what C and Rust must say of them, and compares: names, order,
-types, sizes, constants, the refusals of each call, and the functions that the archive has. Rests on the sources' own layout, which `rt fmt` keeps, and on the
-programs that the environment names as CC and NM.
+types, sizes, constants, the refusals of each call, and the functions that the archive has. Rests on the sources' own layout, which `rt fmt`
+keeps, and on the programs that the environment names as CC and NM.
 """
 import os
 import re

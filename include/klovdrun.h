@@ -142,7 +142,8 @@ klov_opened klov_open(uint64_t kind);
  * A piece, src, is taken whole or refused. Refusals 6, 2, 7, 8. */
 klov_answer klov_piece(klov_reader *reader, const uint8_t *src, size_t src_len, uint8_t *out, size_t out_len, uint8_t *counts, size_t counts_len);
 
-/* The strict end succeeds with no packets, and has then ended the reader. Refusals 6, 3, 13, 14. On no input it succeeds. */
+/* The strict end succeeds with no packets, and has then ended the reader. Refusals 6, 3, 13, 14. On no input it succeeds. Where no end was
+ * answered before, its success says that the recording is complete; after one, and after a refused klov_open, it says nothing. */
 klov_answer klov_strict_end(klov_reader *reader);
 
 /* The lenient end drops a block that is not whole, and hands out packets that are owed, zeros where the file has no bytes, as many as there

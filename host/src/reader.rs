@@ -26,7 +26,8 @@ impl Reader {
         self.keep(step)
     }
 
-    /// Ends a recording that is complete, or refuses by 6, 3, 13 or 14, and is as it was.
+    /// Ends a recording that is complete, or refuses by 6, 3, 13 or 14, and is as it was. After an end that was answered it succeeds, and says
+    /// nothing more.
     pub fn strict_end(&mut self) -> Result<()> {
         let step = raw::strict_end(&mut self.state);
         self.keep(step).map(|_| ())

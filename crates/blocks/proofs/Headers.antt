@@ -6,10 +6,10 @@ use mathlib.Core.List.{List, _++_}
 use native.Mathlib.Numerals.{add-one}
 use native.Mathlib.Omega.{arith}
 use borrow.Author.Tests.{le-leb, lt-leb, eq-eqb, ne-eqb}
-use lib.ListN.{List·getD-append}
+use lib.ListN.{length, List·getD-append}
 use lib.Dec.{eqb}
 use Rattle.tables.proofs.Cases.{by-order}
-use Rattle.blocks.specs.Places.{Whole, blockAt}
+use Rattle.blocks.specs.Places.{Whole, wholeBlocks, blockAt}
 use Rattle.blocks.specs.Headers.{Bytes, headerByte, flagOf, countOf, announcedIn}
 
 -- the flag is the digit of 128 in the byte
@@ -55,3 +55,10 @@ announced-kept f p a zero whole = refl
 announced-kept f p a (suc b) whole =
     let here = header-kept f p a b 2 (omega arith) (omega arith) in
     omega (arith, announced-kept f p a b (omega arith), here)
+
+-- and so do all whole blocks, if there are any
+pub announced-same : (f rest : List ℕ) (a : ℕ) → announcedIn f a (wholeBlocks (length f) a) ≡ announcedIn (f ++ rest) a (wholeBlocks (length f) a)
+announced-same f rest a =
+    by-order (length f) a
+    (λ short. let none : wholeBlocks (length f) a ≡ 0 = omega arith in rw none (announced-none f a ∙ sym (announced-none (f ++ rest) a)))
+    (λ full. announced-kept f rest a (wholeBlocks (length f) a) (omega arith))

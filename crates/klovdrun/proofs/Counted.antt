@@ -1,78 +1,108 @@
 -- What a host is told adds up: the packets that the calls have told and the frames owed that the last one tells are together all that was
 -- announced. Assumes nothing.
-use Prim.Native.Nat.{ℕ, _+_}
-use mathlib.Core.Path.{_≡_, sym, _∙_}
-use mathlib.Core.List.{List, [], _++_, append-assoc, append-nil}
+use Prim.Native.Nat.{ℕ, _+_, _*_}
+use mathlib.Core.Path.{_≡_, sym, _∙_, subst}
+use mathlib.Core.List.{List, [], _++_}
+use mathlib.Core.Bool.{true}
 use native.Mathlib.Omega.{arith}
+use lib.ListN.{take}
 use Rattle.tables.proofs.Cases.{by-order}
 use Rattle.blocks.specs.Headers.{announcedIn}
 use Rattle.refusals.specs.Said.{answers}
 use Rattle.refusals.proofs.Said.{passed}
-use Rattle.sp.specs.Outcome.{roomIn}
 use Rattle.reader.specs.declared.Reader.{Reader}
-use Rattle.reader.specs.State.{State, isKind, startOf, blocksIn, announcedBy, opened, handed, owed, readerOf, Sound, Reached}
-use Rattle.reader.specs.Calls.{openSaid, afterOpen, afterPiece, afterStrict, afterLenient}
-use Rattle.reader.specs.History.{joined}
-use Rattle.reader.proofs.Parts.{ready-in-header, ready-more}
-use Rattle.reader.proofs.Laws.{at-state, steps-by, piece-accepted, owed-in-header}
-use Rattle.reader.proofs.Ends.{strict-passed}
+use Rattle.reader.specs.declared.Step.{Step}
+use Rattle.reader.specs.State.{isKind, startOf, blocksIn, opened, owed, Reached}
+use Rattle.reader.specs.Calls.{openSaid, afterOpen, Opens}
+use Rattle.reader.specs.History.{StrictCall, OwedCall, joined, Refuses, Called, none, more, leniently, strictly, refused}
+use Rattle.reader.proofs.Laws.{steps-by, owed-in-header}
+use Rattle.reader.proofs.Ends.{owed-is, strict-passed}
+use Rattle.reader.proofs.Total.{reached-opened}
+use Rattle.reader.proofs.Called.{any-calls-counted}
+use Rattle.numbers.specs.declared.Answer.{Answer}
 use Rattle.klovdrun.specs.declared.Opened.{Opened}
-use Rattle.klovdrun.specs.Wrapped.{OpenCarries}
+use Rattle.klovdrun.specs.Wrapped.{stepTo, OpenCarries, Advances}
 use Rattle.klovdrun.specs.Hosted.{Told, nothing, taken, not-taken, strict-end, lenient-end}
-use Rattle.klovdrun.proofs.Theorems.{open-tells, piece-tells, strict-end-tells, lenient-end-tells}
+use Rattle.klovdrun.proofs.Theorems.{open-tells, strict-end-tells}
+use Rattle.klovdrun.proofs.Hosted.{piece-stored, piece-taken, piece-refused, strict-stored, strict-answered, strict-refused, lenient-stored, lenient-answered, lenient-refused}
 
-abbrev reached-at : {reader : Reader} (s : State) → reader ≡ readerOf s → Sound s → Reached reader
-reached-at s e sound = record { state = s; is = e; sound = sound }
+-- what stands behind what a host is told: calls that brought out so many packets, and that it owes so many in the end
+record Behind (reader : Reader) (pieces : List (List ℕ)) (sum m : ℕ) : Type 0 where
+  pub packets : List ℕ
+  pub entries : List ℕ
+  pub last : Reader
+  pub called : Called reader pieces sum packets entries last
+  pub owes : OwedCall last m
 
--- from a state on: what was handed out before, what the calls told, and what is told to be owed in the end
-adds-up : {reader : Reader} {m m′ sum : ℕ} {pieces : List (List ℕ)} → Told reader m pieces sum m′ → (s : State) → reader ≡ readerOf s → Sound s
-    → m ≡ owed s → handed s + sum + m′ ≡ announcedBy (s .kind) (s .bytes ++ joined pieces)
-unfolding joined
-adds-up nothing s e sound owes = rw (append-nil (s .bytes)) (omega (arith, sound .among))
-adds-up (taken {piece = piece} {rest = rest} out out′ counts counts′ r c zero after) s e sound owes =
-    let known = reached-at s e sound in
-    let told = piece-tells known c .zero zero in
-    let passed = piece-accepted s piece (roomIn out counts) (told .0) (told .1) in
-    let v = at-state known (c .carries .comes) .steps in
-    let next = steps-by (afterPiece s piece) (v .answer-is ∙ told .1) v in
-    let rest-adds = adds-up after (afterPiece s piece (answers (told .0))) (next .reader-is) (next .sound) (told .4) in
-    rw (← append-assoc (s .bytes) piece (joined rest)) (omega (arith, rest-adds, told .3, passed .1, ready-more (s .kind) (s .bytes) piece))
-adds-up (not-taken piece out out′ counts counts′ r c some after) s e sound owes =
-    let known = reached-at s e sound in
-    let told = piece-tells known c .above some in
-    let v = at-state known (c .carries .comes) .steps in
-    let next = steps-by (afterPiece s piece) (v .answer-is ∙ told .1) v in
-    omega (arith, adds-up after s (next .reader-is) sound (told .5), told .4)
-adds-up (strict-end r c after) s e sound owes =
-    let known = reached-at s e sound in
-    let v = at-state known (c .carries .comes) in
-    by-order 0 (r .refusal)
-    (λ some.
-    let told = strict-end-tells known c .above some in
-    let next = steps-by (afterStrict s) (v .answer-is ∙ told .1) v in
-    omega (arith, adds-up after s (next .reader-is) sound (told .5), told .4))
-    (λ none.
-    let told = strict-end-tells known c .zero (omega arith) in
-    let next = steps-by (afterStrict s) (v .answer-is ∙ told .1) v in
-    let no-packets : told .0 ≡ 0 = strict-passed (s .phase) _ _ (owed s) (told .0) (told .1) (λ none ended. none) (λ none full whole owes. none) in
-    omega (arith, adds-up after (afterStrict s (answers (told .0))) (next .reader-is) (next .sound) (told .4), told .3, no-packets))
-adds-up (lenient-end out out′ counts counts′ r c after) s e sound owes =
-    let known = reached-at s e sound in
-    let v = at-state known (c .carries .comes) .steps in
-    by-order 0 (r .refusal)
-    (λ some.
-    let told = lenient-end-tells known c .above some in
-    let next = steps-by (afterLenient s) (v .answer-is ∙ told .1) v in
-    omega (arith, adds-up after s (next .reader-is) sound (told .5), told .4))
-    (λ none.
-    let told = lenient-end-tells known c .zero (omega arith) in
-    let next = steps-by (afterLenient s) (v .answer-is ∙ told .1) v in
-    omega (arith, adds-up after (afterLenient s (answers (told .0))) (next .reader-is) (next .sound) (told .4), told .3))
+-- a call that told no packets
+told-none : {reader : Reader} {pieces : List (List ℕ)} {sum m : ℕ} (first : ℕ) → first ≡ 0 → Behind reader pieces sum m
+    → Behind reader pieces (first + sum) m
+told-none {reader} {pieces} {sum} {m} first is-zero v =
+    let same : sum ≡ first + sum = omega arith in
+    subst (λ (sum : ℕ). Behind reader pieces sum m) same v
 
--- an open that is answered has no packets
-no-packets-yet : (kind n : ℕ) → openSaid kind ≡ answers n → n ≡ 0
+-- and was refused
+after-refused : {reader next : Reader} {pieces : List (List ℕ)} {sum m : ℕ} (first : ℕ) → Refuses reader next × (first ≡ 0)
+    → Behind next pieces sum m → Behind reader pieces (first + sum) m
+after-refused first call v =
+    told-none first (call .1)
+    (record { packets = v .packets; entries = v .entries; last = v .last; called = refused (call .0) (v .called); owes = v .owes })
+
+-- a strict end that was answered told none
+strict-none : {reader stored : Reader} {r : Answer} (known : Reached reader) → Advances (StrictCall reader) stored r → r .refusal ≡ 0 → r .first ≡ 0
+strict-none known c answered =
+    let told = strict-end-tells known c .zero answered in
+    told .3 ∙ strict-passed (known .state .phase) _ _ (owed (known .state)) (told .0) (told .1) (λ zero ended. zero) (λ zero full whole owes. zero)
+
+told-behind : {reader : Reader} {m m′ sum : ℕ} {pieces : List (List ℕ)} → Told reader m pieces sum m′ → Reached reader → OwedCall reader m
+    → Behind reader pieces sum m′
+told-behind {reader} nothing known owes = record { packets = []; entries = []; last = reader; called = none; owes = owes }
+told-behind (taken {stored = stored} out out′ counts counts′ r c zero after) known owes =
+    let v = told-behind after (piece-stored known c) (c .owed-is) in
+    record {
+      packets = take (42 * r .first) out′ ++ v .packets;
+      entries = take (r .first) counts′ ++ v .entries;
+      last = v .last;
+      called = more out out′ counts counts′ (stepTo stored (c .carries .answer)) (c .carries .comes) (piece-taken known c zero) (v .called);
+      owes = v .owes;
+    }
+told-behind (not-taken piece out out′ counts counts′ r c some after) known owes =
+    after-refused (r .first) (piece-refused known c some) (told-behind after (piece-stored known c) (c .owed-is))
+told-behind (strict-end {stored = stored} r c after) known owes =
+    let v = told-behind after (strict-stored known c) (c .owed-is) in
+    by-order 0 (r .refusal) (λ some. after-refused (r .first) (strict-refused known c some) v)
+    (λ no-refusal.
+    let zero : r .refusal ≡ 0 = omega arith in
+    told-none (r .first) (strict-none known c zero)
+    (record {
+      packets = v .packets;
+      entries = v .entries;
+      last = v .last;
+      called = strictly (stepTo stored (c .carries .answer)) (c .carries .comes) (strict-answered known c zero) (v .called);
+      owes = v .owes;
+    }))
+told-behind (lenient-end {stored = stored} out out′ counts counts′ r c after) known owes =
+    let v = told-behind after (lenient-stored known c) (c .owed-is) in
+    by-order 0 (r .refusal) (λ some. after-refused (r .first) (lenient-refused known c some) v)
+    (λ no-refusal.
+    let zero : r .refusal ≡ 0 = omega arith in
+    record {
+      packets = take (42 * r .first) out′ ++ v .packets;
+      entries = take (r .first) counts′ ++ v .entries;
+      last = v .last;
+      called = leniently out out′ counts counts′ (stepTo stored (c .carries .answer)) (c .carries .comes) (lenient-answered known c zero) (v .called);
+      owes = v .owes;
+    })
+
+-- an open that is answered is of a kind that there is, has no packets, and owes none
+pub opened-none : (kind n : ℕ) → openSaid kind ≡ answers n → (isKind kind ≡ true) × (n ≡ 0)
 unfolding openSaid
-no-packets-yet kind n said = cc (passed (isKind kind) 10 kind (answers 0) said .1)
+opened-none kind n said = let p = passed (isKind kind) 10 kind (answers 0) said in (p .0, cc (p .1))
+
+opened-owes : (kind n : ℕ) {step : Step} → Opens kind step → openSaid kind ≡ answers n → OwedCall (step .reader) 0
+opened-owes kind n {step} opens said s is sound =
+    let first = steps-by (afterOpen kind) (opens .answer-is ∙ said) opens in
+    sym (owed-in-header (opened kind) (omega arith)) ∙ sym (owed-is (opened kind) (step .reader) (first .reader-is)) ∙ owed-is s (step .reader) is
 
 -- No announced frame goes uncounted, in a host's numbers: after `klov_open` and any calls of `klov_piece`, `klov_strict_end` and
 -- `klov_lenient_end`, in any order, refused ones among them, all the first numbers together and the last second number are what the whole
@@ -80,10 +110,9 @@ no-packets-yet kind n said = cc (passed (isKind kind) 10 kind (answers 0) said .
 pub told-adds-up : (kind : ℕ) {r : Opened} → OpenCarries kind r → r .answer .refusal ≡ 0 → {pieces : List (List ℕ)} {sum m : ℕ}
     → Told (r .reader) (r .answer .second) pieces sum m
     → r .answer .first + sum + m ≡ announcedIn (joined pieces) (startOf kind) (blocksIn kind (joined pieces))
-told-adds-up kind {r} c zero told =
+told-adds-up kind {r} c zero {m = m} told =
     let begun = open-tells kind c .zero zero in
-    let v = c .comes in
-    let first = steps-by (afterOpen kind) (v .answer-is ∙ begun .1) v in
-    let none = ready-in-header kind [] (omega arith) in
-    let all = adds-up told (opened kind) (first .reader-is) (first .sound) (begun .4 ∙ sym (owed-in-header (opened kind) (omega arith))) in
-    omega (arith, all, none, begun .3, no-packets-yet kind (begun .0) (begun .1))
+    let known = opened-none kind (begun .0) (begun .1) in
+    let owes = subst (λ (m : ℕ). OwedCall (r .reader) m) (sym (begun .4)) (opened-owes kind (begun .0) (c .comes) (begun .1)) in
+    let v = told-behind told (reached-opened kind (c .comes)) owes in
+    omega (arith, begun .3, known .1, any-calls-counted kind _ (c .comes) (known .0) (v .called) m (v .owes))

@@ -3,5 +3,6 @@ pub mod Storing
 pub mod Refusing
 pub mod Settled
 pub mod Theorems
+pub mod Hosted
 pub mod Counted
 pub mod Complete

@@ -77,7 +77,7 @@ pub klov-show-tells : (f : List ℕ) (q size room : ℕ) {r : Answer} → r ≡ 
 unfolding isAmong
 klov-show-tells f q size room e = tells whereNumber placeNumber 0 (standing (fetchFrom f q size room) q size) refl (fetch-numbered f q size room) e
 
--- `klov_tally`: the same of its nine numbers, announced and handed out among them
+-- `klov_tally`: the same of four of its nine numbers; that all nine are the tally's is its contract
 pub klov-tally-tells : (f : List ℕ) {r : Tallied} → r ≡ tallyNumbers (tallied f)
     → Tells tallyRefusals (λ figures. figures .announced) (λ figures. figures .out .many) 0 (tallied f)
     (four (r .refusal) (r .beside) (r .announced) (r .handed))

@@ -1,5 +1,5 @@
--- The numbers that each export refuses by, in the order in which they are decided; `klov_tally`'s are the tally's own (`tallyRefusals`).
--- Assumes nothing.
+-- The numbers that each export refuses by, as its definition decides them one after another; `klov_tally`'s are the tally's own
+-- (`tallyRefusals`). Assumes nothing.
 use Prim.Native.Nat.{ℕ}
 use mathlib.Core.List.{List, [], _∷_}
 

@@ -16,10 +16,10 @@ use Rattle.sp.specs.Outcome.{demuxedSays}
 use Rattle.hold.proofs.Ready.{total-is, ready-within, ready-complete}
 use Rattle.reader.specs.declared.Reader.{Reader}
 use Rattle.reader.specs.declared.Step.{Step}
-use Rattle.reader.specs.State.{isKind, isDss, startOf, blocksIn, readingBy, opened, owed}
+use Rattle.reader.specs.State.{isKind, isDss, startOf, blocksIn, opened, owed}
 use Rattle.reader.specs.Calls.{Opens}
 use Rattle.reader.specs.History.{StrictCall, joined, Fed}
-use Rattle.reader.specs.Complete.{Complete}
+use Rattle.reader.specs.Complete.{CompleteRecording}
 use Rattle.reader.proofs.Ends.{strict-passed}
 use Rattle.reader.proofs.Folding.{holding, opened-fed}
 use Rattle.reader.proofs.Agreeing.{agrees-is}
@@ -33,7 +33,7 @@ module _ (kind : ℕ) (opening : Step) (opens : Opens kind opening) (known : isK
   -- A strict end that succeeds says that the recording is complete. However a fresh reader was given its pieces, and whatever it has refused
   -- in between: if a strict end is then answered, all that was taken and came out is a complete recording.
   pub strict-end-is-complete : {step : Step} {m : ℕ} → StrictCall last step → demuxedSays (step .answer) ≡ answers m
-      → Complete kind (joined pieces) n packets entries
+      → CompleteRecording kind (joined pieces) n packets entries
   strict-end-is-complete {step} {m} call said =
       let f = joined pieces in
       let v = opened-fed kind opening opens known fed in
@@ -49,12 +49,11 @@ module _ (kind : ℕ) (opening : Step) (opens : Opens kind opening) (known : isK
             (λ e. inl (leb-true (startOf kind) (length f) (rw e at full)));
         none-owed = all;
         none-cut = omega (arith, whole);
+        packets-are = v .part .packets-are;
+        counts-are = v .part .entries-are;
         none-short = λ k h. ready-complete f (startOf kind) (blocksIn kind f) (isDss kind) k (omega (arith, v .many));
         all-read = λ agrees. (
-          readingBy kind f,
           agrees-is kind f (v .sound .small) agrees,
           all ∙ sym (total-is (isDss kind) f (startOf kind) (blocksIn kind f)),
-          v .part .packets-are,
-          v .part .entries-are,
         );
       })

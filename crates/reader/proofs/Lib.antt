@@ -15,6 +15,6 @@ pub mod Complete
 pub mod Reachable
 pub mod Rooms
 pub mod Wrong
-pub mod Called
 pub mod Equal
+pub mod Called
 pub mod Settled

@@ -8,23 +8,16 @@ use native.Mathlib.Omega.{arith}
 use borrow.Author.Tests.{le-leb, lt-leb, leb-true, leb-false, eqb-true, eqb-false}
 use lib.ListN.{length, length-append}
 use lib.Dec.{eqb, leb}
-use Rattle.tables.proofs.Cases.{by-order, by-test}
-use Rattle.blocks.specs.Places.{limit, wholeBlocks}
-use Rattle.blocks.specs.Headers.{Bytes, announcedIn}
-use Rattle.blocks.proofs.Headers.{announced-none, announced-grows, announced-kept}
+use Rattle.tables.proofs.Cases.{by-test}
+use Rattle.blocks.specs.Places.{limit}
+use Rattle.blocks.specs.Headers.{Bytes}
+use Rattle.blocks.proofs.Headers.{announced-grows, announced-same}
 use Rattle.refusals.specs.Said.{answers, refuses}
 use Rattle.refusals.proofs.Said.{not-both, by-demand}
 use Rattle.hold.proofs.Ready.{ready-within}
 use Rattle.reader.specs.State.{State, isKind, isDss, startOf, blocksIn, fitsBy, owed, headerFull, Sound}
 use Rattle.reader.specs.Calls.{openSaid, brings, pieceSaid, strictSaid, inBlock, strictBy}
 use Rattle.reader.proofs.Laws.{bytes-joined}
-
--- the whole blocks of an input announce the same in a longer one
-announced-same : (f rest : List ℕ) (a : ℕ) → announcedIn f a (wholeBlocks (length f) a) ≡ announcedIn (f ++ rest) a (wholeBlocks (length f) a)
-announced-same f rest a =
-    by-order (length f) a
-    (λ short. let none : wholeBlocks (length f) a ≡ 0 = omega arith in rw none (announced-none f a ∙ sym (announced-none (f ++ rest) a)))
-    (λ full. announced-kept f rest a (wholeBlocks (length f) a) (omega arith))
 
 module _ (s : State) (piece : List ℕ) where
   -- Where a reader takes pieces, the bytes joined are within the limit and every block fits, a piece is taken exactly if there is room for all
@@ -91,10 +84,10 @@ module _ (s : State) (piece : List ℕ) where
       omega (arith, ample, v .3, most-brought sound bytes (v .0))
 
 -- why a strict end is refused
-by-strict : {X : Type 0} (phase a long owed m n : ℕ) → strictBy phase a long owed ≡ refuses m n → (6 ≡ m → X) → (3 ≡ m → X)
+strict-refused-by : {X : Type 0} (phase a long owed m n : ℕ) → strictBy phase a long owed ≡ refuses m n → (6 ≡ m → X) → (3 ≡ m → X)
     → (13 ≡ m → (inBlock a long ≡ 0 → ⊥) → inBlock a long ≡ n → X) → (14 ≡ m → (owed ≡ 0 → ⊥) → owed ≡ n → X) → X
 unfolding strictBy
-by-strict phase a long owed m n e six three thirteen fourteen =
+strict-refused-by phase a long owed m n e six three thirteen fourteen =
     by-demand (not (eqb phase 1)) e
     (λ goes-on e.
     by-test (eqb phase 2) (λ ended. absurd (not-both (sym (rw ended at e))))
@@ -115,10 +108,10 @@ ten-tells kind n e = by-demand (isKind kind) e (λ known e. absurd (not-both (sy
 pub thirteen-tells : (s : State) (n : ℕ) → strictSaid s ≡ refuses 13 n
     → (length (s .bytes) ≡ startOf (s .kind) + 512 * blocksIn (s .kind) (s .bytes) + n) × (0 < n) × (n < 512)
 thirteen-tells s n e =
-    by-strict (s .phase) (startOf (s .kind)) (length (s .bytes)) (owed s) 13 n e (λ is. absurd (omega (arith, is))) (λ is. absurd (omega (arith, is)))
+    strict-refused-by (s .phase) (startOf (s .kind)) (length (s .bytes)) (owed s) 13 n e (λ is. absurd (omega (arith, is))) (λ is. absurd (omega (arith, is)))
     (λ is some inside. (omega (arith, some, inside), omega (arith, some, inside), omega (arith, inside))) (λ is some owes. absurd (omega (arith, is)))
 
 pub fourteen-tells : (s : State) (n : ℕ) → strictSaid s ≡ refuses 14 n → (n ≡ owed s) × (0 < n)
 fourteen-tells s n e =
-    by-strict (s .phase) (startOf (s .kind)) (length (s .bytes)) (owed s) 14 n e (λ is. absurd (omega (arith, is))) (λ is. absurd (omega (arith, is)))
+    strict-refused-by (s .phase) (startOf (s .kind)) (length (s .bytes)) (owed s) 14 n e (λ is. absurd (omega (arith, is))) (λ is. absurd (omega (arith, is)))
     (λ is some inside. absurd (omega (arith, is))) (λ is some owes. (sym owes, omega (arith, some, owes)))

@@ -7,18 +7,20 @@ use mathlib.Core.Logic.{_⊎_}
 use lib.ListN.{length}
 use Rattle.blocks.specs.Headers.{announcedIn}
 use Rattle.refusals.specs.Said.{answers}
-use Rattle.sp.specs.Readings.{Reading, total, CompleteAt}
+use Rattle.sp.specs.Readings.{total, CompleteAt}
 use Rattle.reader.specs.State.{startOf, blocksIn, readingBy}
 use Rattle.reader.specs.History.{packetsFrom, countsFrom}
 use Rattle.reader.specs.Agreement.{wholeReading, Agrees}
 
 -- of f, all bytes that a reader of this kind has taken, n packets came out, and with that it is complete: its header is full, or it has
--- no byte at all; the packets are as many as its whole blocks announce; no byte lies past the last of them; each packet's read is
--- complete; and where f is a file that is read as this kind, packets and counts are its whole reading, all of it
-pub record Complete (kind : ℕ) (f : List ℕ) (n : ℕ) (packets entries : List ℕ) : Type 0 where
+-- no byte at all; the packets are as many as its whole blocks announce; no byte lies past the last of them; each packet is the reading's
+-- of these blocks, with its count, and its read is complete; and where f is a file that is read as this kind, that is its whole reading, all
+-- of it
+pub record CompleteRecording (kind : ℕ) (f : List ℕ) (n : ℕ) (packets entries : List ℕ) : Type 0 where
   pub header : (startOf kind ≤ length f) ⊎ (f ≡ [])
   pub none-owed : n ≡ announcedIn f (startOf kind) (blocksIn kind f)
   pub none-cut : length f ≤ startOf kind + 512 * blocksIn kind f
+  pub packets-are : packets ≡ packetsFrom (readingBy kind f) 0 n
+  pub counts-are : entries ≡ countsFrom (readingBy kind f) 0 n
   pub none-short : (k : ℕ) → k < n → CompleteAt (readingBy kind f) k
-  pub all-read : Agrees kind f → (reading : Reading) × (wholeReading kind f ≡ answers reading) × (n ≡ total reading)
-      × (packets ≡ packetsFrom reading 0 n) × (entries ≡ countsFrom reading 0 n)
+  pub all-read : Agrees kind f → (wholeReading kind f ≡ answers (readingBy kind f)) × (n ≡ total (readingBy kind f))
