@@ -7,6 +7,7 @@ use Rattle.reader.specs.declared.Reader.{Reader}
 use Rattle.reader.specs.State.{opened as fresh, Reached}
 use Rattle.reader.specs.History.{StrictCall, joined, Fed, none, more, refused}
 use Rattle.reader.specs.Complete.{CompleteRecording}
+use Rattle.reader.proofs.Laws.{at-state, reached-by}
 use Rattle.reader.proofs.Total.{reached-opened}
 use Rattle.reader.proofs.Folding.{holding, opened-fed}
 use Rattle.reader.proofs.Complete.{strict-end-is-complete}
@@ -14,8 +15,8 @@ use Rattle.numbers.specs.declared.Answer.{Answer}
 use Rattle.klovdrun.specs.declared.Opened.{Opened}
 use Rattle.klovdrun.specs.Wrapped.{stepTo, OpenCarries, Advances}
 use Rattle.klovdrun.specs.Hosted.{Given, nothing, taken, not-taken, no-strict-end, no-lenient-end}
-use Rattle.klovdrun.proofs.Theorems.{open-tells}
-use Rattle.klovdrun.proofs.Hosted.{piece-stored, piece-taken, piece-refused, strict-stored, strict-answered, strict-refused, lenient-stored, lenient-refused}
+use Rattle.klovdrun.proofs.Theorems.{open-tells, piece-tells, strict-end-tells}
+use Rattle.klovdrun.proofs.Hosted.{told-answer, piece-refused, strict-refused, lenient-refused}
 use Rattle.klovdrun.proofs.Counted.{opened-none}
 
 -- what a host gave is what a reader by value is given
@@ -23,13 +24,14 @@ given-fed : {reader last : Reader} {pieces : List (List ℕ)} {n : ℕ} {packets
     → Reached reader → Fed reader pieces n packets entries last
 given-fed nothing known = none
 given-fed (taken {stored = stored} out out′ counts counts′ r c zero after) known =
-    more out out′ counts counts′ (stepTo stored (c .carries .answer)) (c .carries .comes) (piece-taken known c zero)
-    (given-fed after (piece-stored known c))
+    let step = at-state known (c .carries .comes) .steps in
+    more out out′ counts counts′ (stepTo stored (c .carries .answer)) (c .carries .comes) (told-answer (piece-tells known c) step zero)
+    (given-fed after (reached-by step))
 given-fed (not-taken piece out out′ counts counts′ r c some after) known =
-    refused (piece-refused known c some .0) (given-fed after (piece-stored known c))
-given-fed (no-strict-end r c some after) known = refused (strict-refused known c some .0) (given-fed after (strict-stored known c))
+    refused (piece-refused known c some .0) (given-fed after (reached-by (at-state known (c .carries .comes) .steps)))
+given-fed (no-strict-end r c some after) known = refused (strict-refused known c some .0) (given-fed after (reached-by (at-state known (c .carries .comes))))
 given-fed (no-lenient-end out out′ counts counts′ r c some after) known =
-    refused (lenient-refused known c some .0) (given-fed after (lenient-stored known c))
+    refused (lenient-refused known c some .0) (given-fed after (reached-by (at-state known (c .carries .comes) .steps)))
 
 -- A host that has opened a reader, given it pieces, and asked whatever was refused in between: if `klov_strict_end` then answers with refusal 0, all
 -- that was taken and came out is a complete recording.
@@ -42,4 +44,5 @@ told-complete kind carries begun {pieces = pieces} given {stored} c ended =
     let fed = given-fed given (reached-opened kind opens) in
     let v = opened-fed kind _ opens kind-is fed in
     let known : Reached _ = record { state = holding (fresh kind) (joined pieces); is = v .reader-is; sound = v .sound } in
-    strict-end-is-complete kind _ opens kind-is fed {step = stepTo stored (c .carries .answer)} (c .carries .comes) (strict-answered known c ended)
+    strict-end-is-complete kind _ opens kind-is fed {step = stepTo stored (c .carries .answer)} (c .carries .comes)
+    (told-answer (strict-end-tells known c) (at-state known (c .carries .comes)) ended)

@@ -15,7 +15,7 @@ use Rattle.reader.specs.declared.Step.{Step}
 use Rattle.reader.specs.State.{isKind, startOf, blocksIn, opened, owed, Reached}
 use Rattle.reader.specs.Calls.{openSaid, afterOpen, Opens}
 use Rattle.reader.specs.History.{StrictCall, OwedCall, joined, Refuses, Called, none, more, leniently, strictly, refused}
-use Rattle.reader.proofs.Laws.{steps-by, owed-in-header}
+use Rattle.reader.proofs.Laws.{at-state, steps-by, reached-by, owed-in-header}
 use Rattle.reader.proofs.Ends.{owed-is, strict-passed}
 use Rattle.reader.proofs.Total.{reached-opened}
 use Rattle.reader.proofs.Called.{any-calls-counted}
@@ -23,8 +23,8 @@ use Rattle.numbers.specs.declared.Answer.{Answer}
 use Rattle.klovdrun.specs.declared.Opened.{Opened}
 use Rattle.klovdrun.specs.Wrapped.{stepTo, OpenCarries, Advances}
 use Rattle.klovdrun.specs.Hosted.{Told, nothing, taken, not-taken, strict-end, lenient-end}
-use Rattle.klovdrun.proofs.Theorems.{open-tells, strict-end-tells}
-use Rattle.klovdrun.proofs.Hosted.{piece-stored, piece-taken, piece-refused, strict-stored, strict-answered, strict-refused, lenient-stored, lenient-answered, lenient-refused}
+use Rattle.klovdrun.proofs.Theorems.{open-tells, piece-tells, strict-end-tells, lenient-end-tells}
+use Rattle.klovdrun.proofs.Hosted.{told-answer, piece-refused, strict-refused, lenient-refused}
 
 -- what stands behind what a host is told: calls that brought out so many packets, and that it owes so many in the end
 record Behind (reader : Reader) (pieces : List (List ℕ)) (sum m : ℕ) : Type 0 where
@@ -58,18 +58,21 @@ told-behind : {reader : Reader} {m m′ sum : ℕ} {pieces : List (List ℕ)} �
     → Behind reader pieces sum m′
 told-behind {reader} nothing known owes = record { packets = []; entries = []; last = reader; called = none; owes = owes }
 told-behind (taken {stored = stored} out out′ counts counts′ r c zero after) known owes =
-    let v = told-behind after (piece-stored known c) (c .owed-is) in
+    let step = at-state known (c .carries .comes) .steps in
+    let v = told-behind after (reached-by step) (c .owed-is) in
     record {
       packets = take (42 * r .first) out′ ++ v .packets;
       entries = take (r .first) counts′ ++ v .entries;
       last = v .last;
-      called = more out out′ counts counts′ (stepTo stored (c .carries .answer)) (c .carries .comes) (piece-taken known c zero) (v .called);
+      called = more out out′ counts counts′ (stepTo stored (c .carries .answer)) (c .carries .comes) (told-answer (piece-tells known c) step zero) (v .called);
       owes = v .owes;
     }
 told-behind (not-taken piece out out′ counts counts′ r c some after) known owes =
-    after-refused (r .first) (piece-refused known c some) (told-behind after (piece-stored known c) (c .owed-is))
+    let v = told-behind after (reached-by (at-state known (c .carries .comes) .steps)) (c .owed-is) in
+    after-refused (r .first) (piece-refused known c some) v
 told-behind (strict-end {stored = stored} r c after) known owes =
-    let v = told-behind after (strict-stored known c) (c .owed-is) in
+    let step = at-state known (c .carries .comes) in
+    let v = told-behind after (reached-by step) (c .owed-is) in
     by-order 0 (r .refusal) (λ some. after-refused (r .first) (strict-refused known c some) v)
     (λ no-refusal.
     let zero : r .refusal ≡ 0 = omega arith in
@@ -78,11 +81,12 @@ told-behind (strict-end {stored = stored} r c after) known owes =
       packets = v .packets;
       entries = v .entries;
       last = v .last;
-      called = strictly (stepTo stored (c .carries .answer)) (c .carries .comes) (strict-answered known c zero) (v .called);
+      called = strictly (stepTo stored (c .carries .answer)) (c .carries .comes) (told-answer (strict-end-tells known c) step zero) (v .called);
       owes = v .owes;
     }))
 told-behind (lenient-end {stored = stored} out out′ counts counts′ r c after) known owes =
-    let v = told-behind after (lenient-stored known c) (c .owed-is) in
+    let step = at-state known (c .carries .comes) .steps in
+    let v = told-behind after (reached-by step) (c .owed-is) in
     by-order 0 (r .refusal) (λ some. after-refused (r .first) (lenient-refused known c some) v)
     (λ no-refusal.
     let zero : r .refusal ≡ 0 = omega arith in
@@ -90,7 +94,7 @@ told-behind (lenient-end {stored = stored} out out′ counts counts′ r c after
       packets = take (42 * r .first) out′ ++ v .packets;
       entries = take (r .first) counts′ ++ v .entries;
       last = v .last;
-      called = leniently out out′ counts counts′ (stepTo stored (c .carries .answer)) (c .carries .comes) (lenient-answered known c zero) (v .called);
+      called = leniently out out′ counts counts′ (stepTo stored (c .carries .answer)) (c .carries .comes) (told-answer (lenient-end-tells known c) step zero) (v .called);
       owes = v .owes;
     })
 

@@ -3,61 +3,43 @@
 use Prim.Native.Nat.{ℕ, _<_}
 use mathlib.Core.Path.{_≡_, sym, ap, _∙_}
 use mathlib.Core.List.{List}
-use Rattle.refusals.specs.Said.{answers}
+use Rattle.refusals.specs.declared.Refusal.{Refusal}
+use Rattle.refusals.specs.Said.{Said, answers, refusal}
+use Rattle.sp.specs.declared.Demuxed.{Demuxed}
 use Rattle.sp.specs.Outcome.{demuxedSays}
 use Rattle.reader.specs.declared.Reader.{Reader}
-use Rattle.reader.specs.State.{Reached}
+use Rattle.reader.specs.State.{State, Reached}
+use Rattle.reader.specs.Calls.{Steps}
 use Rattle.reader.specs.History.{PieceCall, StrictCall, LenientCall, Refuses, a-piece, a-strict-end, a-lenient-end}
-use Rattle.reader.proofs.Laws.{at-state, reached-by}
+use Rattle.reader.proofs.Laws.{at-state}
 use Rattle.numbers.specs.declared.Answer.{Answer}
-use Rattle.klovdrun.specs.Wrapped.{stepTo, Advances}
+use Rattle.klovdrun.specs.Wrapped.{stepTo, Advances, Tells}
 use Rattle.klovdrun.proofs.Theorems.{piece-tells, strict-end-tells, lenient-end-tells}
 
+-- a call whose numbers tell what it said: what its answer says, by them
+module _ {numbers : List ℕ} {second : ℕ → ℕ} {other : ℕ} {said : Said ℕ} {next : State} {stored : Reader} {answer : Demuxed} {r : Answer}
+    (tells : Tells numbers (λ n. n) second other said r) (steps : Steps said next (stepTo stored answer)) where
+  pub told-answer : r .refusal ≡ 0 → demuxedSays answer ≡ answers (r .first)
+  told-answer zero = let told = tells .zero zero in steps .answer-is ∙ told .1 ∙ ap answers (sym (told .3))
+
+  told-refusal : 0 < r .refusal → (why : Refusal) × (demuxedSays answer ≡ refusal why) × (r .first ≡ 0)
+  told-refusal some = let told = tells .above some in (told .0, steps .answer-is ∙ told .1, told .4)
+
+-- a refused one is a refused call on the reader, and tells no packets
 module _ {reader stored : Reader} {r : Answer} (known : Reached reader) where
-  -- a piece: the reader that is stored; what was said if it was taken; and if it was not, that it was refused
-  module _ {piece out out′ counts counts′ : List ℕ} (c : Advances (PieceCall reader piece out out′ counts counts′) stored r) where
-    pub piece-stored : Reached stored
-    piece-stored = reached-by (at-state known (c .carries .comes) .steps)
+  pub piece-refused : {piece out out′ counts counts′ : List ℕ} → Advances (PieceCall reader piece out out′ counts counts′) stored r → 0 < r .refusal
+      → Refuses reader stored × (r .first ≡ 0)
+  piece-refused {piece} {out} {out′} {counts} {counts′} c some =
+      let told = told-refusal (piece-tells known c) (at-state known (c .carries .comes) .steps) some in
+      (a-piece piece out out′ counts counts′ (stepTo stored (c .carries .answer)) (told .0) (c .carries .comes) (told .1), told .2)
 
-    pub piece-taken : r .refusal ≡ 0 → demuxedSays (c .carries .answer) ≡ answers (r .first)
-    piece-taken zero =
-        let told = piece-tells known c .zero zero in
-        at-state known (c .carries .comes) .steps .answer-is ∙ told .1 ∙ ap answers (sym (told .3))
+  pub strict-refused : Advances (StrictCall reader) stored r → 0 < r .refusal → Refuses reader stored × (r .first ≡ 0)
+  strict-refused c some =
+      let told = told-refusal (strict-end-tells known c) (at-state known (c .carries .comes)) some in
+      (a-strict-end (stepTo stored (c .carries .answer)) (told .0) (c .carries .comes) (told .1), told .2)
 
-    pub piece-refused : 0 < r .refusal → Refuses reader stored × (r .first ≡ 0)
-    piece-refused some =
-        let told = piece-tells known c .above some in
-        let said = at-state known (c .carries .comes) .steps .answer-is ∙ told .1 in
-        (a-piece piece out out′ counts counts′ (stepTo stored (c .carries .answer)) (told .0) (c .carries .comes) said, told .4)
-
-  -- the same of a strict end
-  module _ (c : Advances (StrictCall reader) stored r) where
-    pub strict-stored : Reached stored
-    strict-stored = reached-by (at-state known (c .carries .comes))
-
-    pub strict-answered : r .refusal ≡ 0 → demuxedSays (c .carries .answer) ≡ answers (r .first)
-    strict-answered zero =
-        let told = strict-end-tells known c .zero zero in
-        at-state known (c .carries .comes) .answer-is ∙ told .1 ∙ ap answers (sym (told .3))
-
-    pub strict-refused : 0 < r .refusal → Refuses reader stored × (r .first ≡ 0)
-    strict-refused some =
-        let told = strict-end-tells known c .above some in
-        let said = at-state known (c .carries .comes) .answer-is ∙ told .1 in
-        (a-strict-end (stepTo stored (c .carries .answer)) (told .0) (c .carries .comes) said, told .4)
-
-  -- and of a lenient one
-  module _ {out out′ counts counts′ : List ℕ} (c : Advances (LenientCall reader out out′ counts counts′) stored r) where
-    pub lenient-stored : Reached stored
-    lenient-stored = reached-by (at-state known (c .carries .comes) .steps)
-
-    pub lenient-answered : r .refusal ≡ 0 → demuxedSays (c .carries .answer) ≡ answers (r .first)
-    lenient-answered zero =
-        let told = lenient-end-tells known c .zero zero in
-        at-state known (c .carries .comes) .steps .answer-is ∙ told .1 ∙ ap answers (sym (told .3))
-
-    pub lenient-refused : 0 < r .refusal → Refuses reader stored × (r .first ≡ 0)
-    lenient-refused some =
-        let told = lenient-end-tells known c .above some in
-        let said = at-state known (c .carries .comes) .steps .answer-is ∙ told .1 in
-        (a-lenient-end out out′ counts counts′ (stepTo stored (c .carries .answer)) (told .0) (c .carries .comes) said, told .4)
+  pub lenient-refused : {out out′ counts counts′ : List ℕ} → Advances (LenientCall reader out out′ counts counts′) stored r → 0 < r .refusal
+      → Refuses reader stored × (r .first ≡ 0)
+  lenient-refused {out} {out′} {counts} {counts′} c some =
+      let told = told-refusal (lenient-end-tells known c) (at-state known (c .carries .comes) .steps) some in
+      (a-lenient-end out out′ counts counts′ (stepTo stored (c .carries .answer)) (told .0) (c .carries .comes) (told .1), told .2)
