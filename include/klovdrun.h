@@ -1,8 +1,9 @@
 /* klovdrun: a demuxer for dictation recordings, DSS and DS2, over the archive libklovdrun.a (x86-64, System V).
+ * docs/FORMAT.md describes the recordings; host/c/intake.c is a whole program over this header.
  *
- * A slice is a pointer and a length in elements. No call keeps a pointer, allocates, or touches anything but what is lent to it; a
- * slice that is not const is written only as far as its call says, and a refused call changes no lent byte and no reader. A reader's calls
- * take up to some 27 KiB of stack, the others under 1 KiB.
+ * LENT MEMORY. A slice is a pointer and a length in elements. No call keeps a pointer, allocates, or touches anything but what is lent to it;
+ * a slice that is not const is written only as far as its call says, and a refused call changes no lent byte and no reader. A reader's
+ * calls take up to some 27 KiB of stack, the others under 1 KiB.
  *
  * Forbidden, and not looked for:
  * - a null pointer, even with length 0: point at anything, or one past the end of an array;
@@ -13,7 +14,40 @@
  *   advancing. A reader may be copied and moved as a whole; each copy then goes its own way.
  * Bytes, lengths and numbers are otherwise free: every input has an answer or a refusal.
  *
- * Refusals, each with its number, its cause and the number beside it:
+ * PACKETS. A call that hands out packets takes `out` and `counts`. Packet i of its answer is the KLOV_PACKET bytes from out[KLOV_PACKET * i]
+ * on, and counts[i] says how many bytes of its read came from the recording. A read has 42 bytes, or 40 if it is swapped, and a packet
+ * with fewer is short: the rest of it are zeros that nobody recorded. Which reads are swapped the block headers say, so that a count of 40
+ * alone does not tell. Every call starts again at out[0] and counts[0], a reader's too; what lies past the packets handed out is as it was.
+ * Room is the smaller of out_len / KLOV_PACKET and counts_len.
+ *
+ * A READER takes an SP recording in pieces. It reads, drains, or has ended:
+ * - it reads from klov_open on. klov_piece takes a piece, which may be cut anywhere and may be empty, whole or not at all. A refused call
+ *   changes nothing, and it goes on reading: after a refused end too;
+ * - it drains once klov_lenient_end has answered and frames are still owed. Pieces and klov_strict_end are then refused by 6, and
+ *   klov_lenient_end is asked again until second is 0;
+ * - it has ended once an end has answered and none is owed. Pieces are then refused by 6, and either end answers 0 packets, which says
+ *   nothing more.
+ * Owed are the frames that the whole blocks so far announce and that were not handed out: every answer has them in second, refused ones too,
+ * so that an empty piece asks for them in any state.
+ *
+ * COMPLETE AS ANNOUNCED. A host that says so of a recording rests on this rule, and on no other answer:
+ *
+ * In pieces: the recording begins `\x02dss` or `\x03dss` and the reader was opened with that first byte, or it begins `\x01ds2` or `\x03ds2`
+ * and the reader was opened with 0 (`\x07ds2` is never read in pieces: its audio start is not a reader's); at least its audio start was
+ * taken; for DS2 the first announcing block's type is one that is read as SP (with none it is an empty recording); every piece was accepted,
+ * in order; and the strict end answered before any lenient end.
+ *
+ * Whole, of any kind: the tally answered, handed out is announced, short is 0, and no byte lies past the last whole block.
+ *
+ * What says nothing: an end on no input (it answers, and there is no recording), a strict end after a lenient one, any end on a reader that
+ * open refused, all of which answer 0; a reader opened for another kind, or one of kind 0 that is fed a `\x07ds2` recording: `klov_open` and
+ * the reader look at no magic and no type.
+ *
+ * klov_reader_kind is the rule's first sentence, klov_complete_as_announced the second. For the type keep a DS2 recording's bytes until
+ * klov_piece has told of a frame (first + second above 0), and ask klov_tally of them: it is read as SP if the kind is KLOV_DS2_SP.
+ * More than was announced nobody can tell: a block that was zeroed, lost or written twice announces otherwise, and the format has no checksum.
+ *
+ * REFUSALS, each with its number, its cause and the number beside it:
  *    1  under 4 bytes, or not a magic that the call takes                                  0
  *    2  input over the limit: a whole file, or all pieces together                         268435456
  *    3  a file shorter than its header, or an end after some bytes of a header, not all    where the audio starts
@@ -41,18 +75,70 @@
 extern "C" {
 #endif
 
+/* The version of all that is said here. It goes up with every change of an answer or of a layout; klov_version tells the archive's. */
+#define KLOV_VERSION 1u
 /* The longest input, in bytes. */
 #define KLOV_LIMIT 268435456u
-/* Bytes of a packet, of a QP frame (and so of a scratch), and of a block's payload. */
+/* Bytes of a packet, of a QP frame (and so of a scratch), of a block, and of a block's payload. */
 #define KLOV_PACKET 42u
 #define KLOV_FRAME 56u
+#define KLOV_BLOCK 512u
 #define KLOV_PAYLOAD 506u
+/* Where the audio starts: of a DSS file with that first byte, 2 or 3; of a DS2 file with first byte 1 or 3. */
+#define KLOV_DSS_START(first) (KLOV_BLOCK * (first))
+#define KLOV_DS2_START 1536u
+/* A QP7 record's bytes, by its second byte. */
+#define KLOV_RECORD(second) ((second) < 0x80 ? 12u : KLOV_FRAME)
 /* Words of a segment's entry in a table of QP, and in one of QP7. */
 #define KLOV_QP_WORDS 4u
 #define KLOV_QP7_WORDS 3u
 /* A reader's size and alignment. */
 #define KLOV_READER_SIZE 12928u
 #define KLOV_READER_ALIGN 8u
+/* Room, in packets, that always suffices for a piece of so many bytes, with so many frames owed before it. */
+#define KLOV_ROOM(owed, src_len) ((uint64_t)(owed) + 255u * (((uint64_t)(src_len) + (KLOV_BLOCK - 1u)) / KLOV_BLOCK))
+
+/* A call whose answer is not looked at says nothing: a compiler that can warns of it. */
+#if defined(__GNUC__)
+#define KLOV_MUST_USE __attribute__((warn_unused_result))
+#else
+#define KLOV_MUST_USE
+#endif
+
+/* Refusals by their numbers; 0 is an answer. */
+enum {
+    KLOV_ANSWERED = 0,
+    KLOV_REFUSED_MAGIC = 1,
+    KLOV_REFUSED_LIMIT = 2,
+    KLOV_REFUSED_HEADER = 3,
+    KLOV_REFUSED_NO_RECORD = 4,
+    KLOV_REFUSED_CUT_RECORD = 5,
+    KLOV_REFUSED_ENDED = 6,
+    KLOV_REFUSED_HOLD = 7,
+    KLOV_REFUSED_ROOM = 8,
+    KLOV_REFUSED_TABLE = 9,
+    KLOV_REFUSED_KIND = 10,
+    KLOV_REFUSED_TYPE = 11,
+    KLOV_REFUSED_PLACE = 12,
+    KLOV_REFUSED_CUT_BLOCK = 13,
+    KLOV_REFUSED_OWING = 14
+};
+
+/* What klov_detect_format answers. */
+enum {
+    KLOV_FORMAT_NONE = 0,
+    KLOV_FORMAT_DSS_SP = 1,
+    KLOV_FORMAT_DS2_SP = 2,
+    KLOV_FORMAT_DS2_QP = 3,
+    KLOV_FORMAT_DS2_QP7 = 4,
+    KLOV_FORMAT_GRUNDIG_SP = 5
+};
+
+/* A tally's kind: how the file is read. A DS2 file of type 8 or above is read as QP, though its format is told as KLOV_FORMAT_DS2_SP. */
+enum { KLOV_DSS_SP = 0, KLOV_DS2_SP = 1, KLOV_DS2_QP = 2, KLOV_DS2_QP7 = 3 };
+
+/* A reader's kind, for klov_open: DS2, and DSS by its first byte. KLOV_READ_WHOLE is none of them, and refused. */
+enum { KLOV_READ_DS2 = 0, KLOV_READ_WHOLE = 1, KLOV_READ_DSS_2 = 2, KLOV_READ_DSS_3 = 3 };
 
 /* What most calls answer. `refusal` is 0, or a refusal's number, and then the number beside it is in `beside`. `first` and `second` are
  * named at each call; what is not named is 0. On a refusal `first` is 0, and so is `second` but for a reader's three calls. */
@@ -63,9 +149,9 @@ typedef struct {
     uint64_t second;
 } klov_answer;
 
-/* The tally of a file: its kind (0 DSSSP, 1 DS2SP, 2 DS2QP, 3 DS2QP7), where its audio starts, how many whole blocks follow, how many
- * frames they announce; how many packets, frames or records the whole reading hands out, how many of them are short, and how many bytes
- * of the file they have. On a refusal these seven are 0. */
+/* The tally of a file: its kind, where its audio starts, how many whole blocks follow, how many frames they announce; how many packets,
+ * frames or records the whole reading hands out, how many of them are short, and how many bytes of the file they have. On a refusal these
+ * seven are 0. */
 typedef struct {
     uint64_t refusal;
     uint64_t beside;
@@ -89,66 +175,112 @@ typedef struct {
     klov_reader reader;
 } klov_opened;
 
-/* What a file is, by its first bytes and its type: 0 none, 1 DssSp, 2 Ds2Sp, 3 Ds2Qp, 4 Ds2Qp7, 5 GrundigSp. */
-uint8_t klov_detect_format(const uint8_t *file, size_t file_len);
+/* The archive's version: if it is not KLOV_VERSION, this header is another archive's, and no other call may be made. */
+KLOV_MUST_USE uint64_t klov_version(void);
+
+/* What a file is, by its first bytes and its type: a KLOV_FORMAT. */
+KLOV_MUST_USE uint8_t klov_detect_format(const uint8_t *file, size_t file_len);
 
 /* Where a DS2 file's audio starts: a file place. */
-size_t klov_detect_ds2_audio_start(const uint8_t *file, size_t file_len);
+KLOV_MUST_USE size_t klov_detect_ds2_audio_start(const uint8_t *file, size_t file_len);
 
 /* The type of a DS2 file whose audio starts there. */
-uint8_t klov_detect_ds2_format_type(const uint8_t *file, size_t file_len, size_t header_size);
+KLOV_MUST_USE uint8_t klov_detect_ds2_format_type(const uint8_t *file, size_t file_len, size_t header_size);
 
 /* 1 if a block's header is good, else 0. */
-uint8_t klov_is_ds2_audio_block_header(const uint8_t *header, size_t header_len);
+KLOV_MUST_USE uint8_t klov_is_ds2_audio_block_header(const uint8_t *header, size_t header_len);
 
 /* A block's payload, KLOV_PAYLOAD bytes of the file itself. first: the file place where they begin. Refusals 1, 2, 3, 12. */
-klov_answer klov_payload(const uint8_t *file, size_t file_len, size_t block);
+KLOV_MUST_USE klov_answer klov_payload(const uint8_t *file, size_t file_len, size_t block);
 
-/* All packets of an SP file, KLOV_PACKET bytes each, and for each how many bytes of its read came from the file. A read has 42 bytes, or 40
- * if it is swapped, and a packet with fewer is short; which reads are swapped the block headers say, so that a count of 40 alone does
- * not tell. first: packets. Room is the smaller of out_len / 42 and counts_len. klov_demux_dss: refusals 1, 2, 3, 8. klov_demux_ds2_sp:
- * refusals 1, 2, 3, 11, 8. */
-klov_answer klov_demux_dss(const uint8_t *file, size_t file_len, uint8_t *out, size_t out_len, uint8_t *counts, size_t counts_len);
-klov_answer klov_demux_ds2_sp(const uint8_t *file, size_t file_len, uint8_t *out, size_t out_len, uint8_t *counts, size_t counts_len);
+/* All packets of an SP file. first: packets. With no room, out_len and counts_len 0, a call says by 8 how many there are.
+ * klov_demux_dss: refusals 1, 2, 3, 8. klov_demux_ds2_sp: refusals 1, 2, 3, 11, 8. */
+KLOV_MUST_USE klov_answer klov_demux_dss(const uint8_t *file, size_t file_len, uint8_t *out, size_t out_len, uint8_t *counts, size_t counts_len);
+KLOV_MUST_USE klov_answer klov_demux_ds2_sp(const uint8_t *file, size_t file_len, uint8_t *out, size_t out_len, uint8_t *counts, size_t counts_len);
 
 /* All segments of a QP file, KLOV_QP_WORDS words each: start in the payload stream, length in bytes, frames, reset. first: segments; second:
  * frames announced. Room is table_len / KLOV_QP_WORDS. Refusals 1, 2, 3, 11, 9. */
-klov_answer klov_demux_ds2_qp(const uint8_t *file, size_t file_len, uint32_t *table, size_t table_len);
+KLOV_MUST_USE klov_answer klov_demux_ds2_qp(const uint8_t *file, size_t file_len, uint32_t *table, size_t table_len);
 
 /* All records of a QP7 file, a word each: place in the payload stream; and all segments, KLOV_QP7_WORDS words each: first record,
  * records, reset. first: records; second: segments. Rooms are records_len and segments_len / KLOV_QP7_WORDS. Refusals 1, 2, 3, 11, 4, 5, 8,
  * 9. */
-klov_answer klov_demux_ds2_qp7(const uint8_t *file, size_t file_len, uint32_t *records, size_t records_len, uint32_t *segments, size_t segments_len);
+KLOV_MUST_USE klov_answer klov_demux_ds2_qp7(const uint8_t *file, size_t file_len, uint32_t *records, size_t records_len, uint32_t *segments, size_t segments_len);
 
 /* Frame k of a QP segment that has `length` bytes from `start` on. first: its place in the payload stream; second: its size. Both are 0
  * when it is missing, or when its place would not fit 64 bits. Refuses nothing. */
-klov_answer klov_frame(uint64_t start, uint64_t length, uint64_t k);
+KLOV_MUST_USE klov_answer klov_frame(uint64_t start, uint64_t length, uint64_t k);
 
-/* `size` bytes of a DS2 file's payload stream: a frame, or a QP7 record, whose second byte has its size. first 0: they are the file's bytes
- * from file place second on, and nothing was written. first 1: they are the scratch's first bytes, and second is 0. klov_show writes
- * nothing, with the same refusals and numbers: after klov_fetch with the same arguments it says where to look. Refusals 1, 2, 3, 12. */
-klov_answer klov_fetch(const uint8_t *file, size_t file_len, size_t stream_place, size_t size, uint8_t *scratch, size_t scratch_len);
-klov_answer klov_show(const uint8_t *file, size_t file_len, size_t stream_place, size_t size, const uint8_t *scratch, size_t scratch_len);
+/* `size` bytes of a DS2 file's payload stream: a frame, or a QP7 record, of which the first 2 bytes are fetched first, since its second byte
+ * has its size (KLOV_RECORD). first 0: they are the file's bytes from file place second on, and nothing was written. first 1: they are the
+ * scratch's first bytes, and second is 0. klov_show writes nothing, with the same refusals and numbers: after klov_fetch with the same
+ * arguments it says where to look. Refusals 1, 2, 3, 12. */
+KLOV_MUST_USE klov_answer klov_fetch(const uint8_t *file, size_t file_len, size_t stream_place, size_t size, uint8_t *scratch, size_t scratch_len);
+KLOV_MUST_USE klov_answer klov_show(const uint8_t *file, size_t file_len, size_t stream_place, size_t size, const uint8_t *scratch, size_t scratch_len);
 
 /* What the whole reading of a file of any kind would hand out, in numbers. Refusals 1, 2, 3, 4, 5. */
-klov_tallied klov_tally(const uint8_t *file, size_t file_len);
+KLOV_MUST_USE klov_tallied klov_tally(const uint8_t *file, size_t file_len);
 
-/* A fresh reader of SP files in pieces: kind 0 for DS2, 2 or 3 for DSS with that first byte. Refusal 10; the reader is then an ended one. */
-klov_opened klov_open(uint64_t kind);
+/* A fresh reader of SP files in pieces: kind 0 for DS2, 2 or 3 for DSS with that first byte. Refusal 10; the reader is then an ended one, whose
+ * ends answer and say nothing. */
+KLOV_MUST_USE klov_opened klov_open(uint64_t kind);
 
-/* A reader's calls, which advance it where it stands. first: packets handed out, as in the whole readings; second: frames owed afterwards,
- * in refused answers too, so that an empty piece asks it in any state.
+/* A reader's calls, which advance it where it stands. first: packets handed out; second: frames owed afterwards, in refused answers too.
  *
- * A piece, src, is taken whole or refused. Refusals 6, 2, 7, 8. */
-klov_answer klov_piece(klov_reader *reader, const uint8_t *src, size_t src_len, uint8_t *out, size_t out_len, uint8_t *counts, size_t counts_len);
+ * A piece, src, is taken whole or refused. Room that always suffices is KLOV_ROOM(second of the call before, src_len). Or it is asked for: a
+ * piece that there is not room enough for is refused by 8, with how many packets it brings, and given again with so much room. After a 7
+ * the recording is read whole. Refusals 6, 2, 7, 8. */
+KLOV_MUST_USE klov_answer klov_piece(klov_reader *reader, const uint8_t *src, size_t src_len, uint8_t *out, size_t out_len, uint8_t *counts, size_t counts_len);
 
-/* The strict end succeeds with no packets, and has then ended the reader. Refusals 6, 3, 13, 14. On no input it succeeds. Where no end was
- * answered before, its success says that the recording is complete; after one, and after a refused klov_open, it says nothing. */
-klov_answer klov_strict_end(klov_reader *reader);
+/* The strict end hands out nothing, and ends the reader of a recording that ends with a whole block and owes nothing. Refusals 6, 3, 13, 14.
+ * What its answer says of the recording is the rule above: on no input it answers too. */
+KLOV_MUST_USE klov_answer klov_strict_end(klov_reader *reader);
 
 /* The lenient end drops a block that is not whole, and hands out packets that are owed, zeros where the file has no bytes, as many as there
  * is room for. It is asked again while second is above 0. Refusal 3. */
-klov_answer klov_lenient_end(klov_reader *reader, uint8_t *out, size_t out_len, uint8_t *counts, size_t counts_len);
+KLOV_MUST_USE klov_answer klov_lenient_end(klov_reader *reader, uint8_t *out, size_t out_len, uint8_t *counts, size_t counts_len);
+
+/* What follows is no part of the archive. */
+
+/* The kind of reader that takes a recording which begins with these bytes, of which four are enough; KLOV_READ_WHOLE if none does. */
+KLOV_MUST_USE static inline uint64_t klov_reader_kind(const uint8_t *first, size_t len)
+{
+    if (len < 4 || first[1] != 'd' || first[2] != 's')
+        return KLOV_READ_WHOLE;
+    if (first[3] == 's' && (first[0] == 2 || first[0] == 3))
+        return first[0];
+    return first[3] == '2' && (first[0] == 1 || first[0] == 3) ? KLOV_READ_DS2 : KLOV_READ_WHOLE;
+}
+
+/* 1 if a file of so many bytes, with this tally, is complete as announced, else 0. */
+KLOV_MUST_USE static inline int klov_complete_as_announced(const klov_tallied *tallied, size_t file_len)
+{
+    return tallied->refusal == KLOV_ANSWERED && tallied->handed == tallied->announced && tallied->short_count == 0
+        && file_len == tallied->start + KLOV_BLOCK * tallied->blocks;
+}
+
+/* A sentence for a refusal: a format for printf, with the number beside, an unsigned long long, for its one argument. Some do not use it. */
+KLOV_MUST_USE static inline const char *klov_refusal_text(uint64_t number)
+{
+    static const char *const texts[] = {
+        "the call answered",
+        "this is not a recording that the call reads: its first four bytes are others, or are not there",
+        "the input is over the limit of %llu bytes",
+        "the recording ends inside its header, which has %llu bytes",
+        "a record should begin at place %llu of the payload stream, and its first two bytes are not there",
+        "the record at place %llu of the payload stream runs past the stream's end",
+        "the reader has ended, or is being drained",
+        "what is unread would not fit in the reader's hold of %llu bytes",
+        "the room is too small: %llu packets or records need it",
+        "the table is too small: %llu segments need it",
+        "there is no reader of kind %llu",
+        "this is a DS2 recording of type %llu, which another call reads",
+        "the recording has no such frame or block, or the scratch is too small",
+        "the recording ends inside a block, of which %llu bytes are there",
+        "the recording has ended, and %llu of the frames that it announces are owed",
+    };
+    return number < sizeof texts / sizeof texts[0] ? texts[number] : "a refusal that is not known here, with %llu beside it";
+}
 
 #ifdef __cplusplus
 }

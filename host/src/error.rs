@@ -2,12 +2,32 @@
 use std::fmt;
 
 /// A refusal: its number, and the number beside it. What was lent to the refused call, and a reader, are as they were.
+#[must_use]
 #[derive(Debug, Clone, Copy, PartialEq, Eq)]
 pub struct Refusal {
     /// Why, by its number in the header's list.
     pub number: u64,
     /// What goes with it: a place, a size, how many are needed; 0 where nothing does.
     pub beside: u64,
+}
+
+/// The numbers by name, as the header has them.
+#[allow(missing_docs)] // the sentences below say what they mean
+impl Refusal {
+    pub const MAGIC: u64 = 1;
+    pub const LIMIT: u64 = 2;
+    pub const HEADER: u64 = 3;
+    pub const NO_RECORD: u64 = 4;
+    pub const CUT_RECORD: u64 = 5;
+    pub const ENDED: u64 = 6;
+    pub const HOLD: u64 = 7;
+    pub const ROOM: u64 = 8;
+    pub const TABLE: u64 = 9;
+    pub const KIND: u64 = 10;
+    pub const TYPE: u64 = 11;
+    pub const PLACE: u64 = 12;
+    pub const CUT_BLOCK: u64 = 13;
+    pub const OWING: u64 = 14;
 }
 
 /// What every call that can refuse answers.
@@ -17,20 +37,20 @@ impl fmt::Display for Refusal {
     fn fmt(&self, to: &mut fmt::Formatter<'_>) -> fmt::Result {
         let beside = self.beside;
         match self.number {
-            1 => write!(to, "this is not a recording that the call reads: its first four bytes are others, or are not there"),
-            2 => write!(to, "the input is over the limit of {beside} bytes"),
-            3 => write!(to, "the recording ends inside its header, which has {beside} bytes"),
-            4 => write!(to, "a record should begin at place {beside} of the payload stream, and its first two bytes are not there"),
-            5 => write!(to, "the record at place {beside} of the payload stream runs past the stream's end"),
-            6 => write!(to, "the reader has ended, or is being drained"),
-            7 => write!(to, "what is unread would not fit in the reader's hold of {beside} bytes"),
-            8 => write!(to, "the room is too small: {beside} packets or records need it"),
-            9 => write!(to, "the table is too small: {beside} segments need it"),
-            10 => write!(to, "there is no reader of kind {beside}"),
-            11 => write!(to, "this is a DS2 recording of type {beside}, which another call reads"),
-            12 => write!(to, "the recording has no such frame or block, or the scratch is too small"),
-            13 => write!(to, "the recording ends inside a block, of which {beside} bytes are there"),
-            14 => write!(to, "the recording has ended, and {beside} of the frames that it announces are owed"),
+            Refusal::MAGIC => write!(to, "this is not a recording that the call reads: its first four bytes are others, or are not there"),
+            Refusal::LIMIT => write!(to, "the input is over the limit of {beside} bytes"),
+            Refusal::HEADER => write!(to, "the recording ends inside its header, which has {beside} bytes"),
+            Refusal::NO_RECORD => write!(to, "a record should begin at place {beside} of the payload stream, and its first two bytes are not there"),
+            Refusal::CUT_RECORD => write!(to, "the record at place {beside} of the payload stream runs past the stream's end"),
+            Refusal::ENDED => write!(to, "the reader has ended, or is being drained"),
+            Refusal::HOLD => write!(to, "what is unread would not fit in the reader's hold of {beside} bytes"),
+            Refusal::ROOM => write!(to, "the room is too small: {beside} packets or records need it"),
+            Refusal::TABLE => write!(to, "the table is too small: {beside} segments need it"),
+            Refusal::KIND => write!(to, "there is no reader of kind {beside}"),
+            Refusal::TYPE => write!(to, "this is a DS2 recording of type {beside}, which another call reads"),
+            Refusal::PLACE => write!(to, "the recording has no such frame or block, or the scratch is too small"),
+            Refusal::CUT_BLOCK => write!(to, "the recording ends inside a block, of which {beside} bytes are there"),
+            Refusal::OWING => write!(to, "the recording has ended, and {beside} of the frames that it announces are owed"),
             other => write!(to, "refusal {other}, which is not known here, with {beside}"),
         }
     }

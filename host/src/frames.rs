@@ -7,6 +7,7 @@ use crate::{raw, FRAME};
 
 /// Frame `k` of a QP segment that has `length` bytes from `start` on: its place and its size, under [`FRAME`] when it is short.
 /// None when it is missing: the segment's bytes end before it.
+#[must_use]
 pub fn frame(start: StreamPlace, length: usize, k: usize) -> Option<(StreamPlace, usize)> {
     let (place, size) = raw::frame(start.0, length, k);
     (size > 0).then_some((StreamPlace(place), size))

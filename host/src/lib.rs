@@ -6,6 +6,15 @@
 //! [`places`] and [`frames`] for bytes that stay in the file, [`tally`](tally()) for a file in numbers, and [`ReadSizes`], which
 //! tells short packets.
 //! Every call answers, or refuses by an [`error::Refusal`]; a refused call changes nothing.
+//!
+//! # Complete as announced
+//!
+//! A host that says so of a recording rests on this rule, and on no other answer.
+//!
+#![doc = include_str!("complete.md")]
+//!
+//! More than was announced nobody can tell: a block that was zeroed, lost or written twice announces otherwise, and the format has no
+//! checksum.
 #![deny(unsafe_code)]
 #![warn(missing_docs)]
 
@@ -29,6 +38,9 @@ pub use reader::Reader;
 pub use sizes::ReadSizes;
 pub use tally::{tally, Tally};
 
+/// The version of the archive that this crate is for. The first call asks the archive for its own, and panics if that is another: nothing
+/// else can be said with it.
+pub const VERSION: u64 = 1;
 /// The longest input in bytes, whole or in pieces.
 pub const LIMIT: usize = 268_435_456;
 /// Bytes of a packet.
@@ -39,6 +51,8 @@ pub const FRAME: usize = 56;
 pub const BLOCK: usize = 512;
 /// Bytes of a block's payload.
 pub const PAYLOAD: usize = 506;
+/// Where a DS2 recording's audio starts if its first byte is 1 or 3.
+pub const DS2_START: FilePlace = FilePlace(1536);
 /// Words of a QP segment's entry in a table.
 pub const QP_WORDS: usize = 4;
 /// Words of a QP7 segment's entry in a table.

@@ -1,10 +1,11 @@
 //! Packets in memory of their own, each with how many bytes of its read came from the file. It rests on refusal 8, which says how
 //! much room is needed and changes nothing, so that the same call can be made again.
-use crate::error::Result;
+use crate::error::{Refusal, Result};
 use crate::PACKET;
 
 /// Packets, joined, and for each how many bytes of its read came from the file. A read has 42 bytes, or 40 if it is swapped; below
 /// that the packet is short, and the rest of it are zeros that nobody recorded. [`ReadSizes`](crate::ReadSizes) tells which is which.
+#[must_use]
 #[derive(Clone, Debug, Default, PartialEq, Eq)]
 pub struct Packets {
     /// [`PACKET`] bytes a packet.
@@ -32,7 +33,7 @@ impl Packets {
     /// Makes the call with the room there is. If it is refused by 8, makes the room that is needed, and makes the call again.
     pub(crate) fn fill(&mut self, mut call: impl FnMut(&mut [u8], &mut [u8]) -> Result<usize>) -> Result<usize> {
         match call(&mut self.bytes, &mut self.counts) {
-            Err(refusal) if refusal.number == 8 => {
+            Err(refusal) if refusal.number == Refusal::ROOM => {
                 self.make_room(refusal.beside as usize);
                 call(&mut self.bytes, &mut self.counts)
             }

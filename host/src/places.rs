@@ -1,6 +1,6 @@
 //! Places in the file and places in the payload stream, counted apart, and a block's payload as bytes of the file itself.
 //! It rests on the archive's call for a payload; nothing here turns the one kind of place into the other.
-use crate::error::Result;
+use crate::error::{Refusal, Result};
 use crate::{raw, PAYLOAD};
 
 /// A place in the file, in bytes from its start.
@@ -28,7 +28,7 @@ pub(crate) fn payload_stream(file: &[u8]) -> Result<Vec<u8>> {
         match payload(file, block) {
             Ok(bytes) => stream.extend_from_slice(bytes),
             // No such block: the one before was the last.
-            Err(refusal) if refusal.number == 12 => break,
+            Err(refusal) if refusal.number == Refusal::PLACE => break,
             Err(refusal) => return Err(refusal),
         }
     }

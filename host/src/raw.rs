@@ -4,7 +4,9 @@
 #![allow(unsafe_code)]
 
 use crate::error::{Refusal, Result};
+use crate::VERSION;
 use std::mem::{align_of, size_of, MaybeUninit};
+use std::sync::atomic::{AtomicBool, Ordering};
 
 const READER_SIZE: usize = 12928;
 
@@ -54,6 +56,7 @@ const _: () = assert!(size_of::<Reader>() == READER_SIZE && align_of::<Reader>()
 const _: () = assert!(size_of::<Opened>() == 32 + READER_SIZE && align_of::<Opened>() == 8);
 
 extern "C" {
+    fn klov_version() -> u64;
     pub(crate) fn klov_detect_format(file: *const u8, file_len: usize) -> u8;
     pub(crate) fn klov_detect_ds2_audio_start(file: *const u8, file_len: usize) -> usize;
     pub(crate) fn klov_detect_ds2_format_type(file: *const u8, file_len: usize, header_size: usize) -> u8;
@@ -117,6 +120,16 @@ extern "C" {
         -> Answer;
 }
 
+/// Asks the archive for its version before the first call of it: in another one the numbers and the layouts may be others.
+fn checked() {
+    static IS_OURS: AtomicBool = AtomicBool::new(false);
+    if !IS_OURS.load(Ordering::Relaxed) {
+        let told = unsafe { klov_version() };
+        assert!(told == VERSION, "libklovdrun.a has version {told}, and this crate is for version {VERSION}");
+        IS_OURS.store(true, Ordering::Relaxed);
+    }
+}
+
 fn accepted<T>(refusal: u64, beside: u64, answer: T) -> Result<T> {
     match refusal {
         0 => Ok(answer),
@@ -141,43 +154,52 @@ impl Answer {
 }
 
 pub(crate) fn detect_format(file: &[u8]) -> u8 {
+    checked();
     unsafe { klov_detect_format(file.as_ptr(), file.len()) }
 }
 
 pub(crate) fn detect_ds2_audio_start(file: &[u8]) -> usize {
+    checked();
     unsafe { klov_detect_ds2_audio_start(file.as_ptr(), file.len()) }
 }
 
 pub(crate) fn detect_ds2_format_type(file: &[u8], header_size: usize) -> u8 {
+    checked();
     unsafe { klov_detect_ds2_format_type(file.as_ptr(), file.len(), header_size) }
 }
 
 pub(crate) fn is_ds2_audio_block_header(header: &[u8]) -> bool {
+    checked();
     unsafe { klov_is_ds2_audio_block_header(header.as_ptr(), header.len()) != 0 }
 }
 
 /// The file place where the block's payload begins.
 pub(crate) fn payload(file: &[u8], block: usize) -> Result<usize> {
+    checked();
     unsafe { klov_payload(file.as_ptr(), file.len(), block) }.first()
 }
 
 /// How many packets.
 pub(crate) fn demux_dss(file: &[u8], out: &mut [u8], counts: &mut [u8]) -> Result<usize> {
+    checked();
     unsafe { klov_demux_dss(file.as_ptr(), file.len(), out.as_mut_ptr(), out.len(), counts.as_mut_ptr(), counts.len()) }.first()
 }
 
 /// How many packets.
 pub(crate) fn demux_ds2_sp(file: &[u8], out: &mut [u8], counts: &mut [u8]) -> Result<usize> {
+    checked();
     unsafe { klov_demux_ds2_sp(file.as_ptr(), file.len(), out.as_mut_ptr(), out.len(), counts.as_mut_ptr(), counts.len()) }.first()
 }
 
 /// How many segments, and how many frames are announced.
 pub(crate) fn demux_ds2_qp(file: &[u8], table: &mut [u32]) -> Result<(usize, usize)> {
+    checked();
     unsafe { klov_demux_ds2_qp(file.as_ptr(), file.len(), table.as_mut_ptr(), table.len()) }.pair()
 }
 
 /// How many records, and how many segments.
 pub(crate) fn demux_ds2_qp7(file: &[u8], records: &mut [u32], segments: &mut [u32]) -> Result<(usize, usize)> {
+    checked();
     unsafe {
         klov_demux_ds2_qp7(file.as_ptr(), file.len(), records.as_mut_ptr(), records.len(), segments.as_mut_ptr(), segments.len())
     }
@@ -186,40 +208,48 @@ pub(crate) fn demux_ds2_qp7(file: &[u8], records: &mut [u32], segments: &mut [u3
 
 /// The frame's place in the payload stream, and its size: 0 when it is missing.
 pub(crate) fn frame(start: usize, length: usize, k: usize) -> (usize, usize) {
+    checked();
     let answer = unsafe { klov_frame(start as u64, length as u64, k as u64) };
     (answer.first as usize, answer.second as usize)
 }
 
 /// 0 and the file place where the bytes stand, or 1: they are the scratch's first.
 pub(crate) fn fetch(file: &[u8], place: usize, size: usize, scratch: &mut [u8]) -> Result<(usize, usize)> {
+    checked();
     unsafe { klov_fetch(file.as_ptr(), file.len(), place, size, scratch.as_mut_ptr(), scratch.len()) }.pair()
 }
 
 /// What `fetch` answers; nothing is written.
 pub(crate) fn show(file: &[u8], place: usize, size: usize, scratch: &[u8]) -> Result<(usize, usize)> {
+    checked();
     unsafe { klov_show(file.as_ptr(), file.len(), place, size, scratch.as_ptr(), scratch.len()) }.pair()
 }
 
 pub(crate) fn tally(file: &[u8]) -> Result<Tallied> {
+    checked();
     let tallied = unsafe { klov_tally(file.as_ptr(), file.len()) };
     accepted(tallied.refusal, tallied.beside, tallied)
 }
 
 /// A fresh reader. The ended one that a refused opening gives is not kept.
 pub(crate) fn open(kind: u64) -> Result<Reader> {
+    checked();
     let Opened { answer, reader } = unsafe { klov_open(kind) };
     accepted(answer.refusal, answer.beside, reader)
 }
 
 pub(crate) fn piece(reader: &mut Reader, piece: &[u8], out: &mut [u8], counts: &mut [u8]) -> (Result<usize>, usize) {
+    checked();
     unsafe { klov_piece(reader, piece.as_ptr(), piece.len(), out.as_mut_ptr(), out.len(), counts.as_mut_ptr(), counts.len()) }
         .step()
 }
 
 pub(crate) fn strict_end(reader: &mut Reader) -> (Result<usize>, usize) {
+    checked();
     unsafe { klov_strict_end(reader) }.step()
 }
 
 pub(crate) fn lenient_end(reader: &mut Reader, out: &mut [u8], counts: &mut [u8]) -> (Result<usize>, usize) {
+    checked();
     unsafe { klov_lenient_end(reader, out.as_mut_ptr(), out.len(), counts.as_mut_ptr(), counts.len()) }.step()
 }

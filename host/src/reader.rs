@@ -2,11 +2,16 @@
 //! It rests on the reader's three calls, which tell the frames owed in every answer.
 use crate::error::Result;
 use crate::packets::Packets;
-use crate::raw;
+use crate::{raw, BLOCK};
 use std::fmt;
 
 /// A reader of SP recordings in pieces. It looks at no magic and no type. It hands packets into lent memory, 42 bytes and a count
-/// each, and allocates nothing; room is the smaller of the two. A copy goes its own way from where it was made.
+/// each, and allocates nothing; room is the smaller of the two, and every call starts again at their front. A copy goes its own way from
+/// where it was made.
+///
+/// It reads from [`open`](Reader::open) on; it drains once a lenient end has answered and frames are still owed; it has ended once an end has
+/// answered and none is owed. A refused call changes nothing, and it goes on as it was.
+#[must_use]
 #[derive(Clone)]
 pub struct Reader {
     state: raw::Reader,
@@ -14,20 +19,39 @@ pub struct Reader {
 }
 
 impl Reader {
+    /// The kind of reader that takes a recording which begins with these bytes, of which four are enough. None: it is read whole.
+    #[must_use]
+    pub fn kind_of(first: &[u8]) -> Option<u64> {
+        match (*first.first()?, first.get(1..4)?) {
+            (kind @ (2 | 3), b"dss") => Some(u64::from(kind)),
+            (1 | 3, b"ds2") => Some(0),
+            _ => None,
+        }
+    }
+
     /// A fresh reader: kind 0 for DS2 (first byte 1 or 3), 2 or 3 for DSS with that first byte. Refusal 10.
     pub fn open(kind: u64) -> Result<Reader> {
         raw::open(kind).map(|state| Reader { state, owed: 0 })
     }
 
-    /// Takes a piece whole, and answers how many packets it brought; or refuses by 6, 2, 7 or 8, and is as it was: after an 8 the
-    /// same piece can be given again with more room.
+    /// Room, in packets, that always suffices for a piece of so many bytes.
+    #[must_use]
+    pub fn room(&self, piece: usize) -> usize {
+        // a block announces 255 frames at most
+        self.owed + 255 * (piece / BLOCK + usize::from(piece % BLOCK > 0))
+    }
+
+    /// Takes a piece whole, and answers how many packets it brought; or refuses by 6, 2, 7 or 8, and is as it was: after an 8, which has
+    /// beside it how many packets the piece brings, it can be given again with so much room; after a 7 the recording is read whole.
     pub fn piece(&mut self, piece: &[u8], out: &mut [u8], counts: &mut [u8]) -> Result<usize> {
         let step = raw::piece(&mut self.state, piece, out, counts);
         self.keep(step)
     }
 
-    /// Ends a recording that is complete, or refuses by 6, 3, 13 or 14, and is as it was. After an end that was answered it succeeds, and says
-    /// nothing more.
+    /// Ends the reader of a recording that ends with a whole block and owes nothing, or refuses by 6, 3, 13 or 14, and is as it was. What its
+    /// answer says of the recording is the rule for "complete as announced":
+    ///
+    #[doc = include_str!("complete.md")]
     pub fn strict_end(&mut self) -> Result<()> {
         let step = raw::strict_end(&mut self.state);
         self.keep(step).map(|_| ())
@@ -41,6 +65,7 @@ impl Reader {
     }
 
     /// How many frames the whole blocks so far have announced that are not handed out.
+    #[must_use]
     pub fn owed(&self) -> usize {
         self.owed
     }

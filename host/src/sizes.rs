@@ -6,6 +6,7 @@ use std::collections::VecDeque;
 
 /// Gathers the sizes of an SP recording's reads from any cut of its bytes, and hands them out in the order of the packets, 42 or 40
 /// each. A packet is short when its count is below its read's size. Only whole blocks count; until then there is no next size.
+#[must_use]
 #[derive(Debug, Clone)]
 pub struct ReadSizes {
     /// Bytes before the audio that are still to come.

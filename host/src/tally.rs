@@ -2,9 +2,10 @@
 use crate::demux::AudioFormat;
 use crate::error::Result;
 use crate::places::FilePlace;
-use crate::raw;
+use crate::{raw, BLOCK};
 
 /// The tally of a file.
+#[must_use]
 #[derive(Debug, Clone, Copy, PartialEq, Eq)]
 pub struct Tally {
     /// How the file is read. A DS2 file of type 8 or above is read as QP, though `detect_format` says `Ds2Sp` of it.
@@ -21,6 +22,26 @@ pub struct Tally {
     pub short: usize,
     /// How many bytes of the file they have.
     pub bytes: usize,
+}
+
+impl Tally {
+    /// Whether a file of so many bytes with this tally is complete as announced, by the rule for that:
+    ///
+    #[doc = include_str!("complete.md")]
+    #[must_use]
+    pub fn complete_as_announced(&self, file_len: usize) -> bool {
+        self.handed == self.announced && self.short == 0 && file_len == self.blocks_end()
+    }
+
+    /// How many bytes of a file of so many lie past its last whole block: those of a block that is cut.
+    #[must_use]
+    pub fn cut(&self, file_len: usize) -> usize {
+        file_len.saturating_sub(self.blocks_end())
+    }
+
+    fn blocks_end(&self) -> usize {
+        self.start.0 + BLOCK * self.blocks
+    }
 }
 
 /// What the whole reading of a file of any kind would hand out. Refusals 1, 2, 3, 4 or 5.

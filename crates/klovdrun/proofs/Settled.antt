@@ -25,6 +25,8 @@ use Rattle.reader.proofs.Total.{only-opened, reached-piece, only-piece, reached
 use Rattle.numbers.specs.declared.Answer.{Answer}
 use Rattle.numbers.specs.Numbers.{oneNumber, qpNumbers, qp7Numbers, standNumbers, owingNumbers}
 use Rattle.klovdrun.specs.Wrapped.{SpCarries, Advances, stepTo}
+use Rattle.klovdrun.proofs.klov_version.Kinds as told
+use Rattle.klovdrun.proofs.klov_version.Reads as told-reads
 use Rattle.klovdrun.proofs.klov_detect_format.Kinds as format
 use Rattle.klovdrun.proofs.klov_detect_format.Reads as format-reads
 use Rattle.klovdrun.proofs.klov_detect_ds2_audio_start.Kinds as start
@@ -55,6 +57,9 @@ use Rattle.klovdrun.proofs.klov_open.Kinds as opening
 use Rattle.klovdrun.proofs.klov_open.Reads as opening-reads
 
 -- the exports that are lent nothing to write
+pub klov-version-settled : SettledResult 0 told.ps told.r told-reads.Post
+klov-version-settled κs a x y s t p q = p ∙ sym q
+
 pub klov-detect-format-settled : SettledResult 1 format.ps format.r format-reads.Post
 klov-detect-format-settled κs a x y s t p q = p ∙ sym q
 

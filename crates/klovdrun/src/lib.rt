@@ -21,13 +21,24 @@ ghost use Rattle.tally.specs.Tallies.{tallied};
 ghost use Rattle.reader.specs.State.{Reached};
 ghost use Rattle.reader.specs.History.{PieceCall, StrictCall, LenientCall};
 ghost use Rattle.numbers.specs.Numbers.{formatNumber, truthNumber, oneNumber, foundNumbers, standNumbers, tallyNumbers};
+ghost use Rattle.klovdrun.specs.Version.{version};
 ghost use Rattle.klovdrun.specs.Wrapped.{SpCarries, QpCarries, Qp7Carries, FillCarries, OpenCarries, Advances};
+
+// The version of the boundary.
+const VERSION: u64 = 1;
 
 // A fresh reader beside the answer.
 #[repr(C)]
 pub struct Opened {
     pub answer: Answer,
     pub reader: Reader,
+}
+
+#[no_mangle]
+pub extern "C" fn klov_version() -> u64
+    ensures { λ r. ⌜ r ≡ version ⌝ }
+{
+    VERSION
 }
 
 #[no_mangle]

@@ -55,16 +55,19 @@ pub enum DemuxedDs2 {
 }
 
 /// Whether a block's header is good.
+#[must_use]
 pub fn is_ds2_audio_block_header(block_header: &[u8]) -> bool {
     raw::is_ds2_audio_block_header(block_header)
 }
 
 /// Where a DS2 file's audio starts: a place in the file.
+#[must_use]
 pub fn detect_ds2_audio_start(data: &[u8]) -> usize {
     raw::detect_ds2_audio_start(data)
 }
 
 /// The type of a DS2 file whose audio starts there.
+#[must_use]
 pub fn detect_ds2_format_type(data: &[u8], header_size: usize) -> u8 {
     raw::detect_ds2_format_type(data, header_size)
 }
@@ -76,8 +79,8 @@ pub fn demux_ds2(data: &[u8]) -> Result<DemuxedDs2> {
             let total_frames = packets.len();
             Ok(DemuxedDs2::Sp { packets: packets.vectors(total_frames), total_frames })
         }
-        Err(Refusal { number: 11, beside: 7 }) => qp7_segments(data),
-        Err(Refusal { number: 11, .. }) => qp_segments(data),
+        Err(Refusal { number: Refusal::TYPE, beside: 7 }) => qp7_segments(data),
+        Err(Refusal { number: Refusal::TYPE, .. }) => qp_segments(data),
         Err(refusal) => Err(refusal),
     }
 }
@@ -136,6 +139,7 @@ pub struct QpRow {
 
 impl QpRow {
     /// A segment's words of the table.
+    #[must_use]
     pub fn from_words(words: [u32; QP_WORDS]) -> QpRow {
         let [start, length, frames, reset] = words;
         QpRow { start: StreamPlace(start as usize), length: length as usize, frames: frames as usize, reset_before: reset != 0 }
@@ -154,7 +158,7 @@ pub struct QpTable {
 /// All segments of a QP file. Refusals 1, 2, 3, 11.
 pub fn demux_ds2_qp(data: &[u8]) -> Result<QpTable> {
     let needed = match demux_ds2_qp_into(data, &mut []) {
-        Err(Refusal { number: 9, beside }) => beside as usize,
+        Err(Refusal { number: Refusal::TABLE, beside }) => beside as usize,
         answer => answer?.0,
     };
     let mut table = vec![0; QP_WORDS * needed];
@@ -182,6 +186,7 @@ pub struct Qp7Row {
 
 impl Qp7Row {
     /// A segment's words of the table.
+    #[must_use]
     pub fn from_words(words: [u32; QP7_WORDS]) -> Qp7Row {
         let [first, records, reset] = words;
         Qp7Row { first: first as usize, records: records as usize, reset_before: reset != 0 }
@@ -201,10 +206,10 @@ pub struct Qp7Table {
 pub fn demux_ds2_qp7(data: &[u8]) -> Result<Qp7Table> {
     let (mut records, mut segments) = (Vec::new(), Vec::new());
     // Records are asked for first, and then, with room for them, segments.
-    if let Err(Refusal { number: 8, beside }) = demux_ds2_qp7_into(data, &mut records, &mut segments) {
+    if let Err(Refusal { number: Refusal::ROOM, beside }) = demux_ds2_qp7_into(data, &mut records, &mut segments) {
         records.resize(beside as usize, 0);
     }
-    if let Err(Refusal { number: 9, beside }) = demux_ds2_qp7_into(data, &mut records, &mut segments) {
+    if let Err(Refusal { number: Refusal::TABLE, beside }) = demux_ds2_qp7_into(data, &mut records, &mut segments) {
         segments.resize(QP7_WORDS * beside as usize, 0);
     }
     demux_ds2_qp7_into(data, &mut records, &mut segments)?;
@@ -228,16 +233,19 @@ pub struct Ds2SpStreamDemuxer {
 impl Ds2SpStreamDemuxer {
     /// For recordings with first byte 1 or 3 and a type below 6; it looks at neither.
     #[allow(clippy::new_without_default)] // dss-codec has none
+    #[must_use]
     pub fn new() -> Self {
         Self { fed: Fed::open(0).expect("kind 0 opens") }
     }
 
-    /// Takes a piece; the packets that it completes. Refusals 6, 2, 7.
+    /// Takes a piece; the packets that it completes. Refusals 6, 2, 7. After a 7 the recording is to be read whole, which this does not do
+    /// by itself.
     pub fn push(&mut self, data: &[u8]) -> Result<Vec<Vec<u8>>> {
         self.fed.push(data)
     }
 
-    /// Ends a complete recording, with no packets. Refusals 6, 3, 13, 14.
+    /// Ends a recording that ends with a whole block and owes nothing, with no packets: what that says of it is
+    /// [`strict_end`](crate::Reader::strict_end)'s rule. Refusals 6, 3, 13, 14.
     pub fn finish(&mut self) -> Result<Vec<Vec<u8>>> {
         self.fed.finish()
     }
@@ -248,11 +256,13 @@ impl Ds2SpStreamDemuxer {
     }
 
     /// How many bytes of its read came from the file, for each packet of the last answer: beyond dss-codec.
+    #[must_use]
     pub fn counts(&self) -> &[u8] {
         self.fed.counts()
     }
 
     /// How many frames the whole blocks so far have announced that are not handed out: beyond dss-codec.
+    #[must_use]
     pub fn owed(&self) -> usize {
         self.fed.owed()
     }
@@ -266,6 +276,7 @@ pub struct Ds2QpStreamDemuxer {
 impl Ds2QpStreamDemuxer {
     /// With no bytes yet.
     #[allow(clippy::new_without_default)] // dss-codec has none
+    #[must_use]
     pub fn new() -> Self {
         Self { data: Vec::new() }
     }
@@ -273,7 +284,7 @@ impl Ds2QpStreamDemuxer {
     /// Keeps a piece; no frames come before the end. Refusal 2, and what was there is kept.
     pub fn push(&mut self, data: &[u8]) -> Result<Vec<Vec<u8>>> {
         if data.len() > LIMIT - self.data.len() {
-            return Err(Refusal { number: 2, beside: LIMIT as u64 });
+            return Err(Refusal { number: Refusal::LIMIT, beside: LIMIT as u64 });
         }
         self.data.extend_from_slice(data);
         Ok(Vec::new())
@@ -292,7 +303,7 @@ impl Ds2QpStreamDemuxer {
                 let places = table.rows.iter().flat_map(|&row| frames::frames(row));
                 places.map(|(place, size)| frames::fetch(file, place, size, &mut scratch).map(<[u8]>::to_vec)).collect()
             }
-            Err(Refusal { number: 11, beside: 7 }) => {
+            Err(Refusal { number: Refusal::TYPE, beside: 7 }) => {
                 let records = demux_ds2_qp7(file)?.records;
                 records.iter().map(|&place| frames::record(file, place, &mut scratch).map(<[u8]>::to_vec)).collect()
             }

@@ -28,11 +28,12 @@ pub struct DssSpStreamDemuxer {
 
 impl DssSpStreamDemuxer {
     /// For recordings with that first byte. Any version but 2 and 3 makes every later call answer refusal 10.
+    #[must_use]
     pub fn new(version: u8) -> Self {
         let kind = u64::from(version);
         // Kind 0 would open a reader, of DS2.
         let fed = match version {
-            0 => Err(Refusal { number: 10, beside: kind }),
+            0 => Err(Refusal { number: Refusal::KIND, beside: kind }),
             _ => Fed::open(kind),
         };
         Self { fed }
@@ -43,7 +44,8 @@ impl DssSpStreamDemuxer {
         self.fed()?.push(data)
     }
 
-    /// Ends a complete recording, with no packets. Refusals 10, 6, 3, 13, 14.
+    /// Ends a recording that ends with a whole block and owes nothing, with no packets: what that says of it is
+    /// [`strict_end`](crate::Reader::strict_end)'s rule. Refusals 10, 6, 3, 13, 14.
     pub fn finish(&mut self) -> Result<Vec<Vec<u8>>> {
         self.fed()?.finish()
     }
@@ -54,11 +56,13 @@ impl DssSpStreamDemuxer {
     }
 
     /// How many bytes of its read came from the file, for each packet of the last answer: beyond dss-codec.
+    #[must_use]
     pub fn counts(&self) -> &[u8] {
         self.fed.as_ref().map_or(&[], Fed::counts)
     }
 
     /// How many frames the whole blocks so far have announced that are not handed out: beyond dss-codec.
+    #[must_use]
     pub fn owed(&self) -> usize {
         self.fed.as_ref().map_or(0, Fed::owed)
     }

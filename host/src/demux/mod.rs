@@ -22,6 +22,7 @@ pub enum AudioFormat {
 
 impl AudioFormat {
     /// The sample rate of the decoded sound, in Hz.
+    #[must_use]
     pub fn native_sample_rate(&self) -> u32 {
         match self {
             AudioFormat::DssSp => 11000,
@@ -31,6 +32,7 @@ impl AudioFormat {
     }
 
     /// The usual end of such a file's name.
+    #[must_use]
     pub fn extension(&self) -> &'static str {
         match self {
             AudioFormat::DssSp | AudioFormat::GrundigSp => "dss",
@@ -40,6 +42,7 @@ impl AudioFormat {
 }
 
 /// What a file is, by its first bytes and its type. Types 8 to 255 are told as `Ds2Sp`, and read as QP.
+#[must_use]
 pub fn detect_format(data: &[u8]) -> Option<AudioFormat> {
     match raw::detect_format(data) {
         1 => Some(AudioFormat::DssSp),
