@@ -1,9 +1,10 @@
-"""header.py HEADER FOLDER [ARCHIVE]: include/klovdrun.h and the Rust crate whose sources are in FOLDER say what the exports of
+"""header.py HEADER FOLDER README [ARCHIVE]: include/klovdrun.h and the Rust crate whose sources are in FOLDER say what the exports of
 crates/klovdrun and the structs that they answer say.
 
 Reads the exports' signatures and the structs from the Rattle sources, writes what C and Rust must say of them, and compares: names, order,
-types, sizes, constants, the refusals of each call, and the functions that the archive has. Rests on the sources' own layout, which `rt fmt`
-keeps, and on the programs that the environment names as CC and NM.
+types, sizes, constants, the version, the refusals of each call with their names and sentences, the numbers of formats and kinds, and the
+functions that the archive has. The rule for "complete as announced" is word for word the same in the header, in README and in the crate.
+Rests on the sources' own layout, which `rt fmt` keeps, and on the programs that the environment names as CC and NM.
 """
 import os
 import re
@@ -15,7 +16,7 @@ RATTLE = "crates/klovdrun/src/lib.rt"
 STRUCTS = {"Reader": "crates/reader/src/lib.rt", "Answer": "crates/numbers/src/lib.rt", "Tallied": "crates/numbers/src/lib.rt", "Opened": RATTLE}
 CONSTANTS = {"LIMIT": "blocks::LIMIT", "PACKET": "packets::PACKET", "FRAME": "frames::FRAME", "PAYLOAD": "blocks::PAYLOAD",
              "BLOCK": "blocks::BLOCK", "HOLD": "hold::HOLD", "QP_WORDS": "qp::ENTRY", "QP7_WORDS": "qp7::ENTRY"}
-IN_HEADER = ("LIMIT", "PACKET", "FRAME", "PAYLOAD", "QP_WORDS", "QP7_WORDS")
+IN_HEADER = ("LIMIT", "PACKET", "FRAME", "BLOCK", "PAYLOAD", "QP_WORDS", "QP7_WORDS")
 IN_RUST = ("LIMIT", "PACKET", "FRAME", "PAYLOAD", "BLOCK", "QP_WORDS", "QP7_WORDS")
 BESIDE = {2: "LIMIT", 7: "HOLD"}  # refusals whose number beside is a constant
 LISTS = ("crates/klovdrun/specs/Refusals.antt", "crates/tally/specs/Tallies.antt")  # where the exports' lists of refusals are defined
@@ -40,7 +41,7 @@ def exports():
     found = []
     pattern = r'#\[no_mangle\]\s+pub extern "C" fn (\w+)\((.*?)\) -> (\w+)\s'
     for name, inside, result in re.findall(pattern, text(RATTLE), re.S):
-        words = [word.split(":", 1) for word in squeeze(inside).rstrip(",").split(",")]
+        words = [word.split(":", 1) for word in squeeze(inside).rstrip(",").split(",") if word]
         found.append((name, [(one.strip(), other.strip()) for one, other in words], result))
     return found
 
@@ -126,15 +127,17 @@ def compare(where, expected, found):
 def check_c(header):
     expected = []
     for name, parameters, result in exports():
-        inside = ", ".join(word for one, kind in parameters for word in c_parameters(one, kind))
-        expected.append(f"{c_type(result)} {name}({inside});")
-    bare = re.sub(r"/\*.*?\*/", "", header, flags=re.S)
+        inside = ", ".join(word for one, kind in parameters for word in c_parameters(one, kind)) or "void"
+        expected.append(f"KLOV_MUST_USE {c_type(result)} {name}({inside});")
+    bare = re.sub(r"/\*.*?\*/|\bstatic inline .*?^}", "", header, flags=re.S | re.M)
     compare("header", expected, [squeeze(line) for line in re.findall(r"^\w[\w *]*\bklov_\w+\([^;]*\);", bare, re.M)])
     for name in ("Answer", "Tallied", "Opened"):
         expected = [f"{c_type(kind)} {field};" for field, kind in fields(name)]
         inside = re.search(r"typedef struct \{([^}]*)\} klov_" + name.lower() + ";", bare).group(1)
         compare("klov_" + name.lower(), expected, [squeeze(line) for line in inside.strip().splitlines()])
     size, align, _ = layout("Reader")
+    check_constant(header, r"#define KLOV_VERSION (\w+)u", version())
+    check_constant(header, r"#define KLOV_DS2_START (\w+)u", ds2_start())
     check_constant(header, r"#define KLOV_READER_SIZE (\w+)u", size)
     check_constant(header, r"#define KLOV_READER_ALIGN (\w+)u", align)
     for name in IN_HEADER:
@@ -144,12 +147,17 @@ def check_c(header):
     for export, _, _ in exports():
         if told(header, export) != refusals().get(export, []):
             say(f"header, {export}", f"refusals {refusals().get(export, [])}", told(header, export))
-    for number in sorted(set(sum(refusals().values(), []))):
+    for number in known():
         line = re.search(rf"^ \* +{number}  \S.*$", header, re.M)
         if not line:
             say("header", f"a line for refusal {number}", "none")
         elif number in BESIDE and not line.group(0).endswith(f" {constant(BESIDE[number])}"):
             say("header", f"refusal {number} with {constant(BESIDE[number])}", line.group(0))
+
+
+def known():
+    """The numbers of all refusals."""
+    return sorted(set(sum(refusals().values(), [])))
 
 
 def constant(name):
@@ -166,6 +174,8 @@ def check_constant(source, pattern, value):
 
 def check_rust(source, root):
     check_constant(source, r"const READER_SIZE: usize = (\w+);", layout("Reader")[0])
+    check_constant(root, r"pub const VERSION: u64 = (\w+);", version())
+    check_constant(root, r"pub const DS2_START: FilePlace = FilePlace\((\w+)\);", ds2_start())
     for name in IN_RUST:
         check_constant(root, rf"pub const {name}: usize = (\w+);", constant(name))
     expected = []
@@ -180,9 +190,41 @@ def check_rust(source, root):
         compare("Rust " + name, fields(name), re.findall(r"(\w+): (\w+),", inside))
 
 
-def check_texts(source):
-    """The Rust crate has a text for each refusal that there is, and for no other."""
-    compare("Rust texts", sorted(set(sum(refusals().values(), []))), [int(number) for number in re.findall(r"^ +(\d+) => ", source, re.M)])
+def version():
+    return number_of(text(RATTLE), r"const VERSION: u64 = (\w+);")
+
+
+def ds2_start():
+    return number_of(text("crates/detect/src/ds2.rt"), r"const DS2_HEADER_SIZE: usize = (\w+);")
+
+
+def number_of(source, pattern):
+    return int(re.search(f"^{pattern}$", source, re.M).group(1).replace("_", ""), 0)
+
+
+def check_names(header, source):
+    """The header's enums have the numbers of the definitions, and the Rust crate has a name and a sentence for each refusal, and for no other:
+    the header's own, with the number beside in its place."""
+    named = {name: int(number) for name, number in re.findall(r"\bKLOV_REFUSED_(\w+) = (\d+)", header)}
+    compare("enum of refusals", known(), sorted(named.values()))
+    compare("Rust names", sorted(named.items()), sorted((name, int(number)) for name, number in re.findall(r"pub const (\w+): u64 = (\d+);", source)))
+    texts = [line.replace("%llu", "{beside}") for line in re.findall(r'^ {8}"(.*)",$', header, re.M)]
+    said = dict(re.findall(r'Refusal::(\w+) => write!\(to, "(.*)"\),', source))
+    compare("Rust texts", [(name, texts[number] if number < len(texts) else "") for name, number in named.items()], list(said.items()))
+    numbers = text("crates/numbers/specs/Numbers.antt")
+    for function, before in (("formatNumber", "KLOV_FORMAT_"), ("kindNumber", "KLOV_")):
+        for name, number in re.findall(rf"^{function} (?:kinds\.)?(\w+) = (\d+)$", numbers, re.M):
+            c_name = before + re.sub(r"(?<=[a-z\d])(?=[A-Z])", "_", name).upper()
+            if not re.search(rf"\b{c_name} = {number}\b", header):
+                say("header", f"{c_name} = {number}", "none")
+
+
+def check_rule(header, rule, readme):
+    """The rule stands in the header and in README as the Rust crate has it, but for the ends of lines."""
+    for where, source in (("header", re.sub(r"^ \*", "", header, flags=re.M)), ("README", readme)):
+        for part in rule.split("\n\n"):
+            if squeeze(part) not in squeeze(source):
+                say(where, "the rule for complete as announced, word for word", f"not so: {squeeze(part)[:60]}..")
 
 
 def check_archive(archive):
@@ -205,16 +247,18 @@ def check_compiled(path):
 
 
 def main():
-    check_c(text(sys.argv[1]))
-    check_rust(text(sys.argv[2] + "/raw.rs"), text(sys.argv[2] + "/lib.rs"))
-    check_texts(text(sys.argv[2] + "/error.rs"))
-    check_compiled(sys.argv[1])
-    if len(sys.argv) > 3:
-        check_archive(sys.argv[3])
+    header, folder, readme = sys.argv[1:4]
+    check_c(text(header))
+    check_rust(text(folder + "/raw.rs"), text(folder + "/lib.rs"))
+    check_names(text(header), text(folder + "/error.rs"))
+    check_rule(text(header), text(folder + "/complete.md"), text(readme))
+    check_compiled(header)
+    if len(sys.argv) > 4:
+        check_archive(sys.argv[4])
     for line in wrong:
         print("header:", line)
     if not wrong:
-        print(f"header: {len(exports())} exports, the header, the Rust declarations and the sizes agree")
+        print(f"header: {len(exports())} exports of version {version()}, the header, the Rust declarations, the sizes and the rule agree")
     sys.exit(1 if wrong else 0)
 
 
