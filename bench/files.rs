@@ -1,5 +1,5 @@
 // The recordings that are measured, the same at every run: without a gap, but for DSS, whose packets stay inside their block. It rests on the
-// format's description. The last block announces only what is complete.
+// format's description (docs/FORMAT.md). The last block announces only what is complete.
 
 pub const BLOCK: usize = 512;
 pub const PAYLOAD: usize = 506;

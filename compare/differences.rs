@@ -1,5 +1,5 @@
 // The differences that docs/DIFFERENCES.md lists, as far as a caller can see them, each with one sentence. At each case the answer is held
-// to what the format's description says of it, and the case is counted. It rests on that document.
+// to what the format's description (docs/FORMAT.md) says of it, and the case is counted. It rests on these two documents.
 
 /// In the order of the list below.
 #[derive(Debug, Clone, Copy)]

@@ -1,5 +1,5 @@
 // The ends of a reading in pieces: strict and lenient, beside the original's, the lenient one also in parts; a reader that drains, one that
-// has ended, and one that was never opened. Where the original has no such state, the answers are the description's.
+// has ended, and one that was never opened. Where the original has no such state, the answers are those of docs/FORMAT.md.
 use crate::common::files::Dice;
 use crate::differences::Name;
 use crate::ours::{Numbers, Reader};

@@ -3,11 +3,12 @@
 
 SOURCE_FOLDER is the original's folder `src`, with demux/mod.rs, demux/ds2.rs and demux/dss.rs. The
 script lays out the cases (every run writes the same bytes), works out every answer by its own model
-of the format's description, asks the original Rust through probe.rs, and stops with the case if the
-two differ where docs/DIFFERENCES.md names no difference. In the list an answer that the Rust gave has
-the letter `r`, any other the letter `d`: refusals, the numbers beside them and file-byte counts always,
-though some are held to the Rust too; tables, most of the tally, and all that the Rust cannot be asked or
-answers otherwise. It also stops if some call is never refused by a number that it can give.
+of the format's description (docs/FORMAT.md), asks the original Rust through probe.rs, and stops with
+the case if the two differ where docs/DIFFERENCES.md names no difference. In the list an answer that the
+Rust gave has the letter `r`, any other the letter `d`: refusals, the numbers beside them and file-byte
+counts always, though some are held to the Rust too; tables, most of the tally, and all that the Rust
+cannot be asked or answers otherwise. It also stops if some call is never refused by a number that it
+can give.
 
 The list has the description's examples, each magic, type, refusal and boundary, the scan, SP packets,
 QP, QP7, fetches, payloads, pieces, the hold, rooms, the inputs that show the Rust's faults, and then

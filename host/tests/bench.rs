@@ -1,4 +1,4 @@
-// The worked examples of the format's description, and the listing's file, through the safe calls. It rests on their numbers
+// The worked examples of docs/FORMAT.md, and the listing's file, through the safe calls. It rests on their numbers
 // alone, written out by hand.
 mod common;
 

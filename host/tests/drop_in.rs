@@ -1,5 +1,5 @@
 // The calls that dss-codec has too, on recordings made from dice. It rests on the model: what every reading answers, written
-// from the format's description.
+// from docs/FORMAT.md.
 mod common;
 
 use common::files::{self, Dice};

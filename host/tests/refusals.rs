@@ -1,5 +1,5 @@
 // Every refusal by its number and the number beside it; that lent memory is as it was, and that a refused reader goes
-// on as if the call had not been made. It rests on the table of refusals in the format's description.
+// on as if the call had not been made. It rests on the table of refusals in docs/FORMAT.md.
 mod common;
 
 use common::files::{header, recording, Dice};

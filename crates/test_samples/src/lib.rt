@@ -30,7 +30,7 @@ pub fn two_blocks(count: u8, byte1: u8, next: u8) -> [u8; 4096]
     file
 }
 
-// The file whose line the format's description has: its block begins 0F 03 0C FF 06 FF.
+// The file whose line the format's description (docs/FORMAT.md) has: its block begins 0F 03 0C FF 06 FF.
 pub fn one_qp_block() -> [u8; 4096]
     ensures { λ r. ⌜ length r ≡ 4096 ⌝ }
 {

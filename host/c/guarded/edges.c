@@ -1,5 +1,6 @@
 /* Files at the edges of the format, by hand: a few bytes, headers one short and one more, counts 0 and 255, for every magic;
- * and the examples of the format's description with the numbers that stand there, which hold the model to it too. */
+ * and the examples of the format's description (docs/FORMAT.md) with the numbers that stand there, which hold the model to it
+ * too. */
 #include "guarded.h"
 
 #include <string.h>

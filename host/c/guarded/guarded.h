@@ -1,6 +1,6 @@
 /* What the files of the guarded test share: memory between inaccessible pages, one way to ask every export, a model of the
- * format, made files. The test holds the exports of include/klovdrun.h to the format's description; the model is written from
- * that alone. */
+ * format, made files. The test holds the exports of include/klovdrun.h to the format's description (docs/FORMAT.md); the model
+ * is written from that alone. */
 #ifndef GUARDED_H
 #define GUARDED_H
 

@@ -1,5 +1,5 @@
-/* A model of the format, written from its description: detection, what every whole call asks first, a block's payload, the
- * bytes of a frame. It is meant to be read beside the description, not to be fast. */
+/* A model of the format, written from its description (docs/FORMAT.md): detection, what every whole call asks first, a block's
+ * payload, the bytes of a frame. It is meant to be read beside the description, not to be fast. */
 #include "guarded.h"
 
 #include <string.h>

@@ -1,4 +1,4 @@
-/* The model goes on: packets, segments, records, the tally, and a reader in pieces, as the format's description has them.
+/* The model goes on: packets, segments, records, the tally, and a reader in pieces, as docs/FORMAT.md has them.
  * Rests on model.c. */
 #include "guarded.h"
 

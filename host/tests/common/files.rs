@@ -1,4 +1,4 @@
-// Recordings made from dice, the same on every run. It rests on the format's description: magics, block headers, starts.
+// Recordings made from dice, the same on every run. It rests on docs/FORMAT.md: magics, block headers, starts.
 
 /// Dice that fall the same way for the same seed.
 pub struct Dice(u64);

@@ -1,5 +1,5 @@
 // A small model of the format: what every reading answers, in vectors and without a thought of speed. It rests on the format's
-// description alone.
+// description (docs/FORMAT.md) alone.
 
 /// A refusal's number and the number beside it.
 pub type Answer<T> = Result<T, (u64, u64)>;
