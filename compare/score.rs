@@ -49,7 +49,7 @@ impl Score {
         self.compare(call, 1, "the description", expected, ours);
     }
 
-    /// A case of a named difference: our answer must be the one that the description gives there.
+    /// A case of a named difference: our answer must be the one that docs/FORMAT.md gives there.
     pub fn named<T: PartialEq + Debug>(&mut self, name: Name, call: &'static str, expected: T, ours: T) {
         self.named[name as usize] += 1;
         self.compare(call, 1, "the description", expected, ours);
