@@ -221,7 +221,7 @@ def check_names(header, source):
 
 def check_rule(header, rule, readme):
     """The rule stands in the header and in README as the Rust crate has it, but for the ends of lines."""
-    for where, source in (("header", re.sub(r"^ \*", "", header, flags=re.M)), ("README", readme)):
+    for where, source in (("header", re.sub(r"^ \*", "", header, flags=re.M)), ("README", re.sub(r"^> ?", "", readme, flags=re.M))):
         for part in rule.split("\n\n"):
             if squeeze(part) not in squeeze(source):
                 say(where, "the rule for complete as announced, word for word", f"not so: {squeeze(part)[:60]}..")
@@ -246,6 +246,25 @@ def check_compiled(path):
         say("compiled header", "its sizes", done.stderr.strip())
 
 
+def check_used(path):
+    """A compiler warns of every call whose answer is not used."""
+    lines = [f'#include "{path}"']
+    for name, parameters, _ in exports():
+        given = [word for one, kind in parameters for word in c_parameters(one, kind)]
+        arguments = ", ".join(re.search(r"\w+$", word).group(0) for word in given)
+        lines.append(f"void ignore_{name}({', '.join(given) or 'void'}) {{ {name}({arguments}); }}")
+    command = [os.environ.get("CC", "cc"), "-std=c11", "-Wall", "-I.", "-S", "-o", os.devnull, "-xc", "-"]
+    told = subprocess.run(command, input="\n".join(lines), capture_output=True, text=True).stderr
+    compare("answers that are not used", sorted(name for name, _, _ in exports()), sorted(re.findall(r"ignoring return value of .(\w+)", told)))
+
+
+def check_quote(readme, source):
+    """What host/README.md has for a decoder stands in the error module with which one is compiled."""
+    for quote in re.findall(r"^    impl From<.*?^    }$", readme, re.S | re.M):
+        if re.sub(r"^    ", "", quote, flags=re.M) not in source:
+            say("host/README.md", "the conversion of compare/decoder/error.rs", quote)
+
+
 def main():
     header, folder, readme = sys.argv[1:4]
     check_c(text(header))
@@ -253,6 +272,8 @@ def main():
     check_names(text(header), text(folder + "/error.rs"))
     check_rule(text(header), text(folder + "/complete.md"), text(readme))
     check_compiled(header)
+    check_used(header)
+    check_quote(text("host/README.md"), text("compare/decoder/error.rs"))
     if len(sys.argv) > 4:
         check_archive(sys.argv[4])
     for line in wrong:

@@ -1,5 +1,5 @@
 // The decoder's errors, with the cases of dss-codec's error.rs and without the crates that it rests on; and the one thing that a decoder has to add
-// to build over our crate: how a refusal becomes one of them. The refusal's number and its sentence are kept in the text.
+// to build over our crate: how a refusal becomes one of them. host/README.md quotes it.
 use std::path::PathBuf;
 
 #[derive(Debug)]
@@ -21,6 +21,10 @@ pub type Result<T> = std::result::Result<T, DecodeError>;
 
 impl From<klovdrun::Refusal> for DecodeError {
     fn from(why: klovdrun::Refusal) -> Self {
-        if why.number == 6 { Self::AlreadyFinished } else { Self::Truncated(format!("refusal {}: {why}", why.number)) }
+        match why.number {
+            6 => Self::AlreadyFinished,
+            3 | 4 | 5 | 13 | 14 => Self::Truncated(why.to_string()),
+            _ => Self::Io(std::io::Error::new(std::io::ErrorKind::InvalidData, why)),
+        }
     }
 }

@@ -81,7 +81,7 @@ fn the_last_packet_of_a_block_is_short() {
 fn where_a_dss_block_starts() {
     // With the flag set the read is swapped, and packet byte 3 is the first byte of the read: its place, above 0.
     for (first, start) in [(255, 506), (2, 0), (3, 2)] {
-        let file = file(b"\x02dss", 1024, &[[0x8F, first, 1, 0, 0, 0]], |place| place as u8 + 1);
+        let file = file(b"\x02dss", 1024, &[[0x8F, first, 1, 0, 0, 0]], |place| (place as u8).wrapping_add(1));
         let packets = dss::demux_dss_counted(&file).unwrap();
         let expected = if start == 506 { (0, 0) } else { (start as u8 + 1, 40) };
         assert_eq!((packets.bytes[3], packets.counts[0]), expected);

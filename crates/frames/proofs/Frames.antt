@@ -49,13 +49,21 @@ all-counted (suc n) such =
     by-test (such n) (λ h. simp h (omega arith)) (λ h. simp h (omega arith))
 
 -- none of the first n is such
-none-such : (n : ℕ) (such : ℕ → Bool) → ((k : ℕ) → k < n → such k ≡ false) → howMany n such ≡ 0
+pub none-such : (n : ℕ) (such : ℕ → Bool) → ((k : ℕ) → k < n → such k ≡ false) → howMany n such ≡ 0
 unfolding howMany
 none-such zero such none = refl
 none-such (suc n) such none =
     let before = none-such n such (λ k h. none k (omega arith)) in
     let last : such n ≡ false = none n (omega arith) in
     simp (before, last)
+
+pub none-counted : (n : ℕ) (such : ℕ → Bool) → howMany n such ≡ 0 → (k : ℕ) → k < n → such k ≡ false
+unfolding howMany
+none-counted zero such none k h = absurd (not-suc-le-zero h)
+none-counted (suc n) such none k h =
+    by-test (such n)
+    (λ last. absurd (omega (arith, rw last at none)))
+    (λ last. by-equal k n (λ same. rw same last) (λ other. none-counted n such (omega (arith, rw last at none)) k (omega arith)))
 
 -- one of the first n is such, and no other
 one-such : (n : ℕ) (such : ℕ → Bool) (j : ℕ) → j < n → such j ≡ true → ((k : ℕ) → (k ≡ j → ⊥) → such k ≡ false) → howMany n such ≡ 1

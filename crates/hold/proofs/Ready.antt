@@ -8,14 +8,15 @@ use native.Mathlib.Numerals.{add-one}
 use native.Mathlib.Omega.{arith}
 use borrow.Author.Tests.{le-leb, leb-true, leb-false}
 use Rattle.tables.proofs.Cases.{by-order, by-test, never}
-use Rattle.blocks.specs.Headers.{swapOf, countOf, announcedIn}
+use Rattle.blocks.specs.Headers.{swapOf, firstOf, countOf, announcedIn}
 use Rattle.blocks.proofs.Headers.{announced-none, announced-more, announced-upto}
 use Rattle.packets.specs.Packet.{readSize}
 use Rattle.packets.specs.Walk.{Walk, steps, reach, Complete}
 use Rattle.packets.proofs.Walk.{steps-more, steps-place, steps-upto}
+use Rattle.packets.proofs.Start.{start-most}
 use Rattle.sp.specs.declared.Run.{Run}
-use Rattle.sp.specs.Runs.{runBegin}
-use Rattle.sp.specs.ReadLists.{dssRun, ds2Run}
+use Rattle.sp.specs.Runs.{runBegin, carryPast}
+use Rattle.sp.specs.ReadLists.{dssRun, dssRuns, ds2Run}
 use Rattle.sp.specs.Readings.{total, walkAt, CompleteAt}
 use Rattle.sp.proofs.Runs.{stands-first}
 use Rattle.sp.proofs.ReadLists.{packets-announced, dss-stands}
@@ -151,6 +152,46 @@ module _ (f : List ℕ) (a n : ℕ) where
         let whole = complete-before (readingIn false f a n .stream) (506 * n) (ds2Run f a n) (ready false f a n) k l h complete in
         absurd (omega (arith, cut, whole)))),
   )
+
+-- the reads of a run end inside if its last one is complete, or if it has none and begins inside
+run-ends : (s : ℕ → ℕ) (carry long : ℕ) (run : Run) → run .start .0 ≤ long
+    → ((i : ℕ) → i < run .count → Complete long (steps s (runBegin carry run) i)) → endsAt run ≤ long
+run-ends s carry long run begins all =
+    let w = runBegin carry run in
+    by-order 0 (run .count)
+    (λ some.
+    let i : ℕ = run .count - 1 in
+    let last : i + 1 ≡ run .count = omega arith in
+    let past : steps s w i .place + readSize (steps s w i .swap) ≡ steps s w (i + 1) .place = rw steps-more refl in
+    omega (arith, all i (omega arith), past, steps-place s w (i + 1), ap (reach (run .swap)) last))
+    (λ none.
+    let silent : run .count ≡ 0 = omega arith in
+    omega (arith, begins, reach-none (run .swap) 0, ap (reach (run .swap)) silent))
+
+-- where every read is complete, every packet is ready
+module _ (f : List ℕ) (a n : ℕ) where
+  all-left : ((k : ℕ) → k < announcedIn f a n → CompleteAt (readingIn true f a n) k) → front f a n ≡ n
+  all-left all =
+      let s = readingIn true f a n .stream in
+      let b = front f a n in
+      by-order b n
+      (λ waits.
+      let run = dssRun f a b in
+      let carry = carryPast s 0 (dssRuns f a b) in
+      let ends =
+      run-ends s carry (506 * n) run (omega (arith, waits, start-most b (firstOf f a b) (swapOf f a b)))
+      (λ i h.
+      subst (Complete (506 * n)) (dss-stands s f a n b i waits h)
+      (all (announcedIn f a b + i) (omega (arith, announced-more f a b, announced-upto f a (b + 1) n (omega arith))))) in
+      absurd (omega (arith, ends, leb-false _ (506 * n) (front-leads f a n .stops waits))))
+      (λ none. omega (arith, none, front-within f a n))
+
+  pub all-ready : (dss : Bool) → ((k : ℕ) → k < announcedIn f a n → CompleteAt (readingIn dss f a n) k) → ready dss f a n ≡ announcedIn f a n
+  all-ready true all = dss-ready f a n ∙ ap (announcedIn f a) (all-left all)
+  all-ready false all =
+      by-order (ready false f a n) (announcedIn f a n)
+      (λ some. absurd (omega (arith, ds2-exactly f a n (ready false f a n) some .1 (all (ready false f a n) some))))
+      (λ none. omega (arith, none, ready-within false f a n))
 
 -- where the hold begins, for either
 pub dss-base : (f : List ℕ) (a n : ℕ) → baseAt true f a n ≡ 506 * front f a n

@@ -20,7 +20,7 @@ use Rattle.klovdrun.proofs.Hosted.{told-answer, piece-refused, strict-r
 use Rattle.klovdrun.proofs.Counted.{opened-none}
 
 -- what a host gave is what a reader by value is given
-given-fed : {reader last : Reader} {pieces : List (List ℕ)} {n : ℕ} {packets entries : List ℕ} → Given reader pieces n packets entries last
+pub given-fed : {reader last : Reader} {pieces : List (List ℕ)} {n : ℕ} {packets entries : List ℕ} → Given reader pieces n packets entries last
     → Reached reader → Fed reader pieces n packets entries last
 given-fed nothing known = none
 given-fed (taken {stored = stored} out out′ counts counts′ r c zero after) known =

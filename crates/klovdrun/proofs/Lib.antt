@@ -6,3 +6,4 @@ pub mod Theorems
 pub mod Hosted
 pub mod Counted
 pub mod Complete
+pub mod Announced

@@ -3,3 +3,4 @@ pub mod Version
 pub mod Wrapped
 pub mod Refusals
 pub mod Hosted
+pub mod Announced

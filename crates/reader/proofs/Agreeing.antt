@@ -50,15 +50,15 @@ ds2-is f a small full magic start type =
     (sym (of-that-kind f Sp rec (formatType f a) refl sp ∙ ds2-goes-on f Sp rec taken))
 
 -- where the audio starts
-dss-start : (kind : ℕ) → isDss kind ≡ true → startOf kind ≡ 512 * kind
+pub dss-start : (kind : ℕ) → isDss kind ≡ true → startOf kind ≡ 512 * kind
 unfolding startOf
 dss-start kind dss = simp (not-true (eqb kind 0) dss)
 
-ds2-start : (kind : ℕ) → isDss kind ≡ false → startOf kind ≡ 1536
+pub ds2-start : (kind : ℕ) → isDss kind ≡ false → startOf kind ≡ 1536
 unfolding startOf
 ds2-start kind ds2 = simp (not-false (eqb kind 0) ds2)
 
-not-scanned : (f : List ℕ) → getD f 0 0 < 7 → audioStart f ≡ 1536
+pub not-scanned : (f : List ℕ) → getD f 0 0 < 7 → audioStart f ≡ 1536
 unfolding audioStart
 not-scanned f below = simp (ne-eqb (getD f 0 0) 7 (λ e. omega arith))
 

@@ -1,26 +1,27 @@
--- What a strict end that succeeds says of a recording: it is complete.
+-- What a strict end that succeeds says of a recording: it is complete. And of a complete one it succeeds.
 -- Assumes nothing.
-use Prim.Native.Nat.{ℕ}
+use Prim.Native.Nat.{ℕ, _+_, _*_, _-_, _%_, _≤_, _<_}
 use mathlib.Core.Path.{_≡_, refl, sym, _∙_}
 use mathlib.Core.List.{List, [], _∷_}
 use mathlib.Core.Logic.{inl, inr}
 use mathlib.Core.Bool.{true}
 use native.Mathlib.Omega.{arith}
-use borrow.Author.Tests.{eqb-true, leb-true}
+use borrow.Author.Tests.{eqb-true, leb-true, le-leb}
 use lib.ListN.{length}
 use lib.Dec.{eqb}
 use Rattle.tables.proofs.Cases.{by-test}
 use Rattle.blocks.specs.Headers.{announcedIn}
 use Rattle.refusals.specs.Said.{answers}
 use Rattle.sp.specs.Outcome.{demuxedSays}
-use Rattle.hold.proofs.Ready.{total-is, ready-within, ready-complete}
+use Rattle.sp.specs.Readings.{CompleteAt}
+use Rattle.hold.proofs.Ready.{total-is, ready-within, ready-complete, all-ready}
 use Rattle.reader.specs.declared.Reader.{Reader}
 use Rattle.reader.specs.declared.Step.{Step}
-use Rattle.reader.specs.State.{isKind, isDss, startOf, blocksIn, opened, owed}
+use Rattle.reader.specs.State.{isKind, isDss, startOf, blocksIn, readingBy, opened, owed, headerFull}
 use Rattle.reader.specs.Calls.{Opens}
 use Rattle.reader.specs.History.{StrictCall, joined, Fed}
 use Rattle.reader.specs.Complete.{CompleteRecording}
-use Rattle.reader.proofs.Ends.{strict-passed}
+use Rattle.reader.proofs.Ends.{strict-passed, strict-ends}
 use Rattle.reader.proofs.Folding.{holding, opened-fed}
 use Rattle.reader.proofs.Agreeing.{agrees-is}
 
@@ -57,3 +58,19 @@ module _ (kind : ℕ) (opening : Step) (opens : Opens kind opening) (known : isK
           all ∙ sym (total-is (isDss kind) f (startOf kind) (blocksIn kind f)),
         );
       })
+
+  -- And a recording that is complete is not refused: of bytes that end with a whole block, and whose reads are all complete, a strict end is answered.
+  pub complete-is-ended : startOf kind ≤ length (joined pieces)
+      → length (joined pieces) ≡ startOf kind + 512 * blocksIn kind (joined pieces)
+      → ((k : ℕ) → k < announcedIn (joined pieces) (startOf kind) (blocksIn kind (joined pieces)) → CompleteAt (readingBy kind (joined pieces)) k)
+      → {step : Step} → StrictCall last step → demuxedSays (step .answer) ≡ answers 0
+  complete-is-ended full whole all call =
+      let f = joined pieces in
+      let a = startOf kind in
+      let v = opened-fed kind opening opens known fed in
+      let s = holding (opened kind) f in
+      let header : headerFull a (length f) ≡ true =
+      by-test (eqb (length f) 0) (λ none. simp none) (λ some. simp (some, le-leb a (length f) full)) in
+      call s (v .reader-is) (v .sound) .answer-is
+      ∙ strict-ends 0 a (length f) (owed s) (λ e. omega (arith, e)) (λ e. omega (arith, e)) header (length f - a) refl
+      (omega (arith, whole)) (omega (arith, all-ready f a (blocksIn kind f) (isDss kind) all))

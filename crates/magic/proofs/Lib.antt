@@ -1,0 +1,2 @@
+-- Laws of this crate. They rest on the definitions in specs/.
+pub mod Names
