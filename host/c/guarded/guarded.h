@@ -159,6 +159,7 @@ size_t make_file(uint8_t *bytes);
 void whole_calls(struct slice file);
 void reader_calls(struct file f, uint64_t kind);
 void reader_opens(void);
+void rule_both_ways(struct file f);
 void expect_piece(struct modelled *m, klov_reader *r, struct slice piece, uint64_t out_len, uint64_t counts_len);
 void expect_strict(struct modelled *m, klov_reader *r);
 void expect_lenient(struct modelled *m, klov_reader *r, uint64_t out_len, uint64_t counts_len);
@@ -170,5 +171,7 @@ void largest(void);
 extern struct area file_area, piece_area, header_area;
 extern struct lists lists;
 extern uint8_t *want_out, *want_counts;
+/* How many files were incomplete and complete as announced, in pieces and whole. */
+extern uint64_t ruled[2];
 
 #endif

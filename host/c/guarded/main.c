@@ -29,6 +29,7 @@ static void made(uint64_t number)
     struct slice file = lend_copy(&file_area, bytes, len);
     uint64_t own = len < 4 || bytes[1] != 'd' || bytes[3] != 's' || (bytes[0] != 2 && bytes[0] != 3) ? 0 : bytes[0];
     whole_calls(file);
+    rule_both_ways((struct file){file.at, len});
     if (number % 2 == (uint64_t)side || number % 8 == 0)
         reader_calls((struct file){file.at, len}, draw(4) == 0 ? kinds[draw(3)] : own);
 }
@@ -65,6 +66,10 @@ int main(int argc, char **argv)
     side = AT_END;
     largest();
     check_all_seen();
-    printf("guarded: %" PRIu64 " calls, %" PRIu64 " checks, %" PRIu64 " wrong\n", calls, checks, wrong);
+    check_number("the version", KLOV_VERSION, klov_version());
+    check_number("where DS2 starts", KLOV_DS2_START, klov_detect_ds2_audio_start(want_out, 0));
+    check_number("whether the rule was met and not met", 1, ruled[0] > 0 && ruled[1] > 0);
+    printf("guarded: %" PRIu64 " files complete as announced and %" PRIu64 " not, in pieces and whole; %" PRIu64 " calls, %" PRIu64 " checks, %" PRIu64 " wrong\n",
+           ruled[1], ruled[0], calls, checks, wrong);
     return wrong == 0 ? 0 : 1;
 }

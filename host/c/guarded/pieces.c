@@ -4,6 +4,8 @@
 
 #include <string.h>
 
+uint64_t ruled[2];
+
 /* Puts a reader into an area of its own, byte by byte. */
 static klov_reader *place_reader(int which, const klov_reader *from)
 {
@@ -101,6 +103,7 @@ static void end_reader(struct modelled *m, klov_reader *r)
 static void give(struct modelled *m, klov_reader *r, uint64_t len)
 {
     uint64_t needed = model_needed(m, len);
+    check_number("whether KLOV_ROOM suffices", 1, needed <= KLOV_ROOM(model_owed(m), len));
     struct slice piece = lend_copy(&piece_area, m->joined.at + m->joined.len, len);
     if (needed > 0) {
         expect_piece(m, r, piece, PACKET * needed - 1, needed);
@@ -154,6 +157,24 @@ void reader_calls(struct file f, uint64_t kind)
             expect_strict(&m, r);
     }
     end_reader(&m, r);
+}
+
+/* The rule for "complete as announced" is one: of a file that a reader takes, the strict end answers exactly if the tally's numbers have it. */
+void rule_both_ways(struct file f)
+{
+    uint64_t kind = klov_reader_kind(f.at, f.len);
+    klov_tallied t = klov_tally(f.at, f.len);
+    if (kind == KLOV_READ_WHOLE || t.kind == KLOV_DS2_QP || t.kind == KLOV_DS2_QP7 || t.refusal > KLOV_REFUSED_HEADER)
+        return;
+    klov_reader r = klov_open(kind).reader;
+    uint64_t room = KLOV_ROOM(0, f.len);
+    klov_answer a = klov_piece(&r, f.at, f.len, want_out, KLOV_PACKET * room, want_counts, room);
+    if (a.refusal == KLOV_REFUSED_HOLD)
+        return;
+    check_number("a piece with KLOV_ROOM", 0, a.refusal);
+    bool complete = klov_strict_end(&r).refusal == KLOV_ANSWERED;
+    check_number("whether it is complete, in pieces and whole", (uint64_t)klov_complete_as_announced(&t, f.len), complete);
+    ruled[complete]++;
 }
 
 /* The reader right after an answer that stands at an edge is the fresh one. */
