@@ -1,22 +1,47 @@
-/* The intake program: reads a dictation recording, writes its packets, frames or records, and says in one line whether it is
- * complete. It rests on include/klovdrun.h and the C library. SP recordings are read in pieces by a reader; what a reader does
- * not take is read whole. Exit status: 0 complete, 1 incomplete, 2 refused, or a file that cannot be read or written. */
+/* The intake program: reads a dictation recording, writes its packets, frames or records, and says in one line whether it is complete
+ * as announced. It rests on include/klovdrun.h, whose rule for that word it follows, and on POSIX for files. SP recordings are read in
+ * pieces by a reader; what a reader does not take is read whole. What it prints and its exit statuses are in `help`. */
 #define _POSIX_C_SOURCE 200809L
 #include "klovdrun.h"
 
+#include <errno.h>
+#include <fcntl.h>
+#include <signal.h>
 #include <stdarg.h>
 #include <stdbool.h>
 #include <stdio.h>
 #include <stdlib.h>
 #include <string.h>
 #include <sys/stat.h>
+#include <unistd.h>
 
-enum { BLOCK = 512, DS2_START = 1536, FIRST_QP_TYPE = 6, DEFAULT_PIECE = 4096 };
-/* Refusals that are acted on, kinds of readers, kinds of a tally, exit statuses. */
-enum { ANSWERS_HOLD = 7, ANSWERS_ROOM = 8, ENDS_IN_BLOCK = 13, ENDS_OWING = 14 };
-enum { NO_KIND = -1, KIND_DS2 = 0 };
-enum { DSS_SP = 0, DS2_SP = 1, DS2_QP = 2 };
-enum { EXIT_COMPLETE = 0, EXIT_INCOMPLETE = 1, EXIT_REFUSED = 2 };
+/* Exit statuses. 2 is kept for a recording that is suspect, and never given. */
+enum status { COMPLETE = 0, INCOMPLETE = 1, REFUSED = 3, FAILED = 4, WRONG_USE = 64 };
+
+/* PART: how much is read at a time where the recording is read whole. SOME_ROOM: packets to begin with. TRIES: for a temporary name. */
+enum { DEFAULT_PIECE = 4096, PART = 1 << 20, SOME_ROOM = 64, TRIES = 100 };
+
+static const char help[] =
+    "usage: intake [--force] [--] RECORDING PACKETS [PIECE]\n"
+    "\n"
+    "Reads a dictation recording (DSS, DS2), writes its packets, frames or records to the file PACKETS, one after the other, and\n"
+    "prints one line. RECORDING - is standard input. PIECE is how many bytes are read at a time, 4096 if it is not given.\n"
+    "\n"
+    "The line, and the exit status:\n"
+    "  complete as announced: 1234 packets                                                  0\n"
+    "  incomplete: 13 packets, 0 bytes of a cut block, 1 frames owed, 1 short: 12           1\n"
+    "  refused 3 1536: the recording ends inside its header, which has 1536 bytes           3\n"
+    "Complete as announced: all that the recording's blocks announce is there. A block that was lost or zeroed announces nothing, and\n"
+    "nobody can tell. Owed are frames that are announced and are not there in full. Short are packets and frames of which bytes are\n"
+    "missing, in a packet with zeros in their place; their numbers follow, counted from 0. A refused recording's packets are not written.\n"
+    "\n"
+    "The other exit statuses, with a line on standard error:\n"
+    "  4   input or output failed; but for a line that could not be printed, PACKETS is as it was\n"
+    "  64  wrong use\n"
+    "Status 2 is not given.\n"
+    "\n"
+    "--force replaces a file PACKETS that is there already, which is else left as it is. Neither the recording itself nor anything\n"
+    "that is not a file is ever replaced. A run that is killed may leave its temporary file .intake-PID beside PACKETS.\n";
 
 /* Bytes that grow. `room` is never 0 after the first reserve, so `at` is then a pointer that may be lent. */
 struct bytes {
@@ -28,6 +53,16 @@ struct bytes {
 struct range {
     uint64_t from;
     uint64_t to;
+};
+
+struct input {
+    const char *name;
+    FILE *from;
+    off_t origin;      /* where the recording begins in it; -1: it cannot be gone back in */
+    struct bytes held; /* all bytes so far, or the last piece alone */
+    bool keeps_all;
+    size_t piece; /* where the last piece begins in `held` */
+    size_t taken;
 };
 
 /* The sizes of the reads, in order, gathered from the recording's bytes: a count of 40 alone does not say whether a packet is
@@ -45,34 +80,45 @@ struct sizes {
 };
 
 struct intake {
-    const char *recording;
     const char *packets;
+    bool force;
     size_t piece;
-    FILE *in;
+    struct input in;
     FILE *out;
     struct sizes sizes;
-    struct bytes shorts; /* ranges of the numbers of short packets or frames */
+    const char *unit;
+    uint64_t handed; /* packets, frames or records; how many of them are short, which, and the bytes of the file in all of them */
     uint64_t short_count;
-    uint64_t handed;
+    struct bytes shorts;
+    uint64_t bytes;
+    bool complete;
     uint64_t cut;
     uint64_t owed;
-    const char *unit;
     uint64_t refusal;
     uint64_t beside;
 };
 
 /* What a way of reading comes to. */
-enum outcome { GOES_ON, DONE, REFUSED, READ_WHOLE };
+enum outcome { GOES_ON, READ, IS_REFUSED, READS_WHOLE };
 
 /* What the way in pieces needs besides. */
 struct pieces {
     klov_reader reader;
-    struct bytes piece;
-    struct bytes kept; /* DS2: all bytes read until something is announced */
     bool type_known;
     struct bytes out;
     struct bytes counts;
 };
+
+/* The temporary file's name while there is one. */
+static char *temporary;
+
+static void remove_temporary(void)
+{
+    if (temporary != NULL)
+        unlink(temporary);
+    free(temporary);
+    temporary = NULL;
+}
 
 static void fail(const char *why, ...)
 {
@@ -82,7 +128,14 @@ static void fail(const char *why, ...)
     vfprintf(stderr, why, rest);
     fputc('\n', stderr);
     va_end(rest);
-    exit(EXIT_REFUSED);
+    remove_temporary();
+    exit(FAILED);
+}
+
+/* With the system's cause. */
+static void fail_at(const char *name)
+{
+    fail("%s: %s", name, strerror(errno));
 }
 
 /* Room for so many bytes more. It at least doubles, so that many small pieces cost little. */
@@ -126,6 +179,55 @@ static void drop(struct bytes *b)
     *b = (struct bytes){0};
 }
 
+/* The recording's bytes. */
+
+static void open_input(struct input *in)
+{
+    bool standard = strcmp(in->name, "-") == 0;
+    if (standard)
+        in->name = "standard input";
+    in->from = standard ? stdin : fopen(in->name, "rb");
+    if (in->from == NULL)
+        fail_at(in->name);
+    in->origin = ftello(in->from);
+    in->keeps_all = true;
+}
+
+/* Reads the next piece, which is shorter than asked for only at the recording's end, and says whether there was one. One byte over the
+ * limit is enough to be refused, so that no more are read. */
+static bool next_piece(struct input *in, size_t size)
+{
+    size_t left = (size_t)KLOV_LIMIT + 1 - in->taken;
+    if (size > left)
+        size = left;
+    if (!in->keeps_all)
+        in->held.len = 0;
+    in->piece = in->held.len;
+    reserve(&in->held, size);
+    size_t got = fread(in->held.at + in->held.len, 1, size, in->from);
+    if (ferror(in->from))
+        fail_at(in->name);
+    in->held.len += got;
+    in->taken += got;
+    return got > 0;
+}
+
+/* Holds the whole recording: goes on where all bytes so far are held, else goes back. */
+static void hold_all(struct input *in)
+{
+    if (!in->keeps_all) {
+        if (fseeko(in->from, in->origin, SEEK_SET) != 0)
+            fail_at(in->name);
+        in->keeps_all = true;
+        in->held.len = 0;
+        in->taken = 0;
+    }
+    while (next_piece(in, PART))
+        ;
+}
+
+/* The sizes of the reads. */
+
 static void note_block(struct sizes *s)
 {
     uint8_t flag = s->head[0] >> 7;
@@ -142,14 +244,14 @@ static void sizes_take(struct sizes *s, const uint8_t *bytes, size_t len)
     size_t i = 0;
     while (i < len) {
         uint64_t place = s->seen + i;
-        uint64_t inside = place < s->start ? 0 : (place - s->start) % BLOCK;
+        uint64_t inside = place < s->start ? 0 : (place - s->start) % KLOV_BLOCK;
         uint64_t step = 1;
         if (place < s->start)
             step = s->start - place;
         else if (inside < sizeof s->head)
             s->head[inside] = bytes[i];
-        else if (inside < BLOCK - 1)
-            step = BLOCK - 1 - inside;
+        else if (inside < KLOV_BLOCK - 1)
+            step = KLOV_BLOCK - 1 - inside;
         else
             note_block(s);
         i = step < len - i ? i + (size_t)step : len;
@@ -162,7 +264,7 @@ static unsigned next_size(struct sizes *s)
 {
     if (s->dss && s->left == 0) {
         if (s->run == s->runs.len)
-            fail("more packets than were announced");
+            fail("more packets were handed out than are announced");
         s->swapped = s->runs.at[s->run] != 0;
         s->left = s->runs.at[s->run + 1];
         s->run += 2;
@@ -174,135 +276,236 @@ static unsigned next_size(struct sizes *s)
     return size;
 }
 
-static void note_short(struct intake *it, uint64_t number)
+/* The packets file, which has another name until it is whole. */
+
+/* Fails if PACKETS must not be written: asked before the recording is read, and again before the file is put in place. */
+static void look_at_output(const struct intake *it)
+{
+    struct stat packets, recording, led_to;
+    if (lstat(it->packets, &packets) != 0) {
+        if (errno != ENOENT)
+            fail_at(it->packets);
+        return;
+    }
+    if (fstat(fileno(it->in.from), &recording) != 0)
+        fail_at(it->in.name);
+    if (stat(it->packets, &led_to) == 0 && led_to.st_dev == recording.st_dev && led_to.st_ino == recording.st_ino)
+        fail("%s: it is the recording itself", it->packets);
+    if (!S_ISREG(packets.st_mode) && !S_ISLNK(packets.st_mode))
+        fail("%s: it is not a file", it->packets);
+    if (!it->force)
+        fail("%s: it is there already; --force replaces it", it->packets);
+}
+
+/* Makes a file of a name that is not there yet, in the folder of PACKETS. */
+static void open_output(struct intake *it)
+{
+    const char *slash = strrchr(it->packets, '/');
+    int folder = slash == NULL ? 0 : (int)(slash - it->packets) + 1;
+    size_t room = (size_t)folder + 64;
+    char *name = malloc(room);
+    if (name == NULL)
+        fail("out of memory");
+    int file = -1;
+    for (int n = 0; n < TRIES && file < 0; n++) {
+        int len = snprintf(name, room, "%.*s.intake-%ld", folder, it->packets, (long)getpid());
+        if (n > 0)
+            snprintf(name + len, room - (size_t)len, "-%d", n);
+        file = open(name, O_WRONLY | O_CREAT | O_EXCL, 0666);
+        if (file < 0 && errno != EEXIST)
+            break;
+    }
+    if (file < 0)
+        fail_at(it->packets);
+    temporary = name;
+    it->out = fdopen(file, "wb");
+    if (it->out == NULL)
+        fail_at(it->packets);
+}
+
+/* Throws away what was written and counted. No packet was short so far: until its end a reader hands out complete ones. */
+static void start_anew(struct intake *it)
+{
+    if (fflush(it->out) != 0 || fseeko(it->out, 0, SEEK_SET) != 0 || ftruncate(fileno(it->out), 0) != 0)
+        fail_at(it->packets);
+    drop(&it->sizes.runs);
+    it->sizes = (struct sizes){0};
+    it->handed = 0;
+    it->bytes = 0;
+}
+
+/* A file that was made meanwhile is not overwritten: a link is refused then, as a renaming is not. */
+static void put_in_place(struct intake *it)
+{
+    if (fflush(it->out) != 0 || fsync(fileno(it->out)) != 0 || fclose(it->out) != 0)
+        fail_at(it->packets);
+    look_at_output(it);
+    if (!it->force && link(temporary, it->packets) == 0) {
+        remove_temporary();
+        return;
+    }
+    /* these say that the file system has no links */
+    if (!it->force && errno != EPERM && errno != EOPNOTSUPP && errno != ENOSYS)
+        fail_at(it->packets);
+    if (rename(temporary, it->packets) != 0)
+        fail_at(it->packets);
+    free(temporary);
+    temporary = NULL;
+}
+
+static void note_short(struct intake *it)
 {
     struct range *last = it->shorts.len > 0 ? (struct range *)(it->shorts.at + it->shorts.len) - 1 : NULL;
     it->short_count++;
-    if (last != NULL && last->to + 1 == number)
-        last->to = number;
+    if (last != NULL && last->to + 1 == it->handed)
+        last->to = it->handed;
     else
-        append(&it->shorts, &(struct range){number, number}, sizeof(struct range));
+        append(&it->shorts, &(struct range){it->handed, it->handed}, sizeof(struct range));
 }
 
-static void put(struct intake *it, const uint8_t *bytes, size_t len)
+/* Writes a packet, frame or record, and counts it: `size` bytes, of which so many are the file's, and it should have `whole`. */
+static void put(struct intake *it, const uint8_t *bytes, size_t size, uint64_t of_file, uint64_t whole)
 {
-    if (len > 0 && fwrite(bytes, 1, len, it->out) != len)
-        fail("%s: cannot be written", it->packets);
+    if (fwrite(bytes, 1, size, it->out) != size)
+        fail_at(it->packets);
+    if (of_file < whole)
+        note_short(it);
+    it->bytes += of_file;
+    it->handed++;
 }
 
 static void put_packets(struct intake *it, const uint8_t *out, const uint8_t *counts, uint64_t packets)
 {
     for (uint64_t i = 0; i < packets; i++)
-        if (counts[i] < next_size(&it->sizes))
-            note_short(it, it->handed + i);
-    put(it, out, (size_t)packets * KLOV_PACKET);
-    it->handed += packets;
-}
-
-/* A piece more after the bytes that are there; fewer only where the recording ends. */
-static size_t read_more(struct intake *it, struct bytes *to, size_t most)
-{
-    reserve(to, most);
-    size_t got = fread(to->at + to->len, 1, most, it->in);
-    if (ferror(it->in))
-        fail("%s: cannot be read", it->recording);
-    to->len += got;
-    return got;
+        put(it, out + KLOV_PACKET * i, KLOV_PACKET, counts[i], next_size(&it->sizes));
 }
 
 static enum outcome refused(struct intake *it, uint64_t refusal, uint64_t beside)
 {
     it->refusal = refusal;
     it->beside = beside;
-    return REFUSED;
+    return IS_REFUSED;
 }
 
-/* Which reader takes a recording that begins so. First byte 7 has its start scanned for, and is read whole. */
-static int kind_of(const struct bytes *b)
+/* What was counted here against the archive's tally of the whole file. */
+
+static void hold(const char *what, uint64_t counted, uint64_t told)
 {
-    if (b->len < 4)
-        return NO_KIND;
-    if (memcmp(b->at + 1, "dss", 3) == 0 && (b->at[0] == 2 || b->at[0] == 3))
-        return b->at[0];
-    if (memcmp(b->at + 1, "ds2", 3) == 0 && (b->at[0] == 1 || b->at[0] == 3))
-        return KIND_DS2;
-    return NO_KIND;
+    if (counted != told)
+        fail("%s: %llu were counted, and the tally tells %llu", what, (unsigned long long)counted, (unsigned long long)told);
 }
 
-/* A reader of DS2 looks at no type: before anything is written, the bytes kept say whether the recording is SP at all. */
-static bool turns_out_qp(struct pieces *p, bool announced)
+static void hold_to_tally(const struct intake *it, const klov_tallied *t)
 {
-    if (p->type_known)
+    hold(it->unit, it->handed, t->handed);
+    hold("short ones", it->short_count, t->short_count);
+    hold("bytes of the file", it->bytes, t->bytes);
+}
+
+/* An incomplete recording that was read in pieces is tallied whole too, if its bytes are held or can be gone back for. */
+static void tally_again(struct intake *it)
+{
+    if (!it->in.keeps_all && it->in.origin < 0)
+        return;
+    hold_all(&it->in);
+    klov_tallied t = klov_tally(it->in.held.at, it->in.held.len);
+    if (t.refusal != KLOV_ANSWERED)
+        fail("the tally refuses by %llu what a reader has taken", (unsigned long long)t.refusal);
+    hold_to_tally(it, &t);
+}
+
+/* The way in pieces. */
+
+/* A reader of DS2 looks at no type. Once a frame is announced the tally of the bytes so far tells it. */
+static bool turns_out_sp(struct input *in)
+{
+    klov_tallied t = klov_tally(in->held.at, in->held.len);
+    if (t.refusal != KLOV_ANSWERED || t.kind != KLOV_DS2_SP)
         return false;
-    append(&p->kept, p->piece.at, p->piece.len);
-    if (!announced)
-        return false;
-    p->type_known = true;
-    uint8_t type = klov_detect_ds2_format_type(p->kept.at, p->kept.len, DS2_START);
-    drop(&p->kept);
-    return type >= FIRST_QP_TYPE;
+    /* a piece may still be refused by 7, and then all bytes are asked for again */
+    in->keeps_all = in->origin < 0;
+    return true;
 }
 
-static klov_answer give(struct pieces *p)
+static void room_for(struct pieces *p, uint64_t packets)
 {
-    return klov_piece(&p->reader, p->piece.at, p->piece.len, p->out.at, p->out.room, p->counts.at, p->counts.room);
+    make_room(&p->out, packets, KLOV_PACKET);
+    make_room(&p->counts, packets, 1);
+}
+
+static klov_answer give(struct pieces *p, const uint8_t *piece, size_t len)
+{
+    return klov_piece(&p->reader, piece, len, p->out.at, p->out.room, p->counts.at, p->counts.room);
 }
 
 /* Gives the piece to the reader, a second time where the first has said how much room it needs, and writes what comes. */
 static enum outcome take_piece(struct intake *it, struct pieces *p)
 {
-    klov_answer a = give(p);
-    if (a.refusal == ANSWERS_ROOM) {
-        make_room(&p->out, a.beside, KLOV_PACKET);
-        make_room(&p->counts, a.beside, 1);
-        a = give(p);
+    const uint8_t *piece = it->in.held.at + it->in.piece;
+    size_t len = it->in.held.len - it->in.piece;
+    klov_answer a = give(p, piece, len);
+    if (a.refusal == KLOV_REFUSED_ROOM) {
+        room_for(p, a.beside);
+        a = give(p, piece, len);
     }
-    if (a.refusal == ANSWERS_HOLD)
-        return READ_WHOLE;
-    if (a.refusal != 0)
+    if (a.refusal == KLOV_REFUSED_HOLD)
+        return READS_WHOLE;
+    if (a.refusal != KLOV_ANSWERED)
         return refused(it, a.refusal, a.beside);
-    if (turns_out_qp(p, it->handed + a.first + a.second > 0))
-        return READ_WHOLE;
-    sizes_take(&it->sizes, p->piece.at, p->piece.len);
+    if (!p->type_known && a.first + a.second > 0) {
+        if (!turns_out_sp(&it->in))
+            return READS_WHOLE;
+        p->type_known = true;
+    }
+    sizes_take(&it->sizes, piece, len);
     put_packets(it, p->out.at, p->counts.at, a.first);
     return GOES_ON;
 }
 
-/* The strict end says what is missing; then the lenient end is asked until nothing is owed. */
+/* The strict end says whether the recording is complete, or what is missing; then the lenient end is asked until nothing is owed. */
 static enum outcome end_pieces(struct intake *it, struct pieces *p)
 {
     klov_answer a = klov_strict_end(&p->reader);
-    if (a.refusal == 0)
-        return DONE;
-    if (a.refusal != ENDS_IN_BLOCK && a.refusal != ENDS_OWING)
+    it->complete = a.refusal == KLOV_ANSWERED;
+    if (it->complete) {
+        hold("short ones", it->short_count, 0);
+        return READ;
+    }
+    if (a.refusal != KLOV_REFUSED_CUT_BLOCK && a.refusal != KLOV_REFUSED_OWING)
         return refused(it, a.refusal, a.beside);
-    it->cut = a.refusal == ENDS_IN_BLOCK ? a.beside : 0;
+    it->cut = a.refusal == KLOV_REFUSED_CUT_BLOCK ? a.beside : 0;
     it->owed = a.second;
     do {
         a = klov_lenient_end(&p->reader, p->out.at, p->out.room, p->counts.at, p->counts.room);
-        if (a.refusal != 0)
+        if (a.refusal != KLOV_ANSWERED)
             return refused(it, a.refusal, a.beside);
         put_packets(it, p->out.at, p->counts.at, a.first);
     } while (a.second > 0);
-    return DONE;
+    tally_again(it);
+    return READ;
 }
 
 static enum outcome feed(struct intake *it, struct pieces *p)
 {
-    while (p->piece.len < 4 && read_more(it, &p->piece, it->piece) > 0)
+    while (next_piece(&it->in, it->piece) && it->in.held.len < 4)
         ;
-    int kind = kind_of(&p->piece);
-    if (kind == NO_KIND)
-        return READ_WHOLE;
-    p->reader = klov_open((uint64_t)kind).reader;
-    p->type_known = kind != KIND_DS2;
-    it->sizes.dss = kind != KIND_DS2;
-    it->sizes.start = kind != KIND_DS2 ? BLOCK * (uint64_t)kind : DS2_START;
+    uint64_t kind = klov_reader_kind(it->in.held.at, it->in.held.len);
+    if (kind == KLOV_READ_WHOLE)
+        return READS_WHOLE;
+    klov_opened opened = klov_open(kind);
+    if (opened.answer.refusal != KLOV_ANSWERED)
+        return refused(it, opened.answer.refusal, opened.answer.beside);
+    p->reader = opened.reader;
+    it->sizes.dss = kind != KLOV_READ_DS2;
+    it->sizes.start = it->sizes.dss ? KLOV_DSS_START(kind) : KLOV_DS2_START;
+    /* a reader takes every DSS recording to its end, so that none of its bytes are asked for again */
+    p->type_known = it->sizes.dss;
+    it->in.keeps_all = !it->sizes.dss;
+    it->in.piece = 0;
     enum outcome outcome;
-    do {
+    do
         outcome = take_piece(it, p);
-        p->piece.len = 0;
-    } while (outcome == GOES_ON && read_more(it, &p->piece, it->piece) > 0);
+    while (outcome == GOES_ON && next_piece(&it->in, it->piece));
     return outcome == GOES_ON ? end_pieces(it, p) : outcome;
 }
 
@@ -310,15 +513,14 @@ static enum outcome read_in_pieces(struct intake *it)
 {
     struct pieces p = {0};
     /* The lenient end hands out as many packets as there is room for, so there is always room for some. */
-    make_room(&p.out, 64, KLOV_PACKET);
-    make_room(&p.counts, 64, 1);
+    room_for(&p, SOME_ROOM);
     enum outcome outcome = feed(it, &p);
-    drop(&p.piece);
-    drop(&p.kept);
     drop(&p.out);
     drop(&p.counts);
     return outcome;
 }
+
+/* The whole way. */
 
 static enum outcome whole_sp(struct intake *it, const struct bytes *file, const klov_tallied *t)
 {
@@ -329,21 +531,18 @@ static enum outcome whole_sp(struct intake *it, const struct bytes *file, const 
     it->sizes.start = t->start;
     sizes_take(&it->sizes, file->at, file->len);
     klov_answer a = klov_demux_ds2_sp(file->at, file->len, out.at, out.room, counts.at, counts.room);
-    if (a.refusal == 0)
+    if (a.refusal == KLOV_ANSWERED)
         put_packets(it, out.at, counts.at, a.first);
-    it->owed = it->short_count;
     drop(&out);
     drop(&counts);
-    return a.refusal == 0 ? DONE : refused(it, a.refusal, a.beside);
+    return a.refusal == KLOV_ANSWERED ? READ : refused(it, a.refusal, a.beside);
 }
 
 /* Bytes of the payload stream: in the file where they lie together, else in the scratch. */
 static const uint8_t *look(const struct bytes *file, uint64_t place, uint64_t size, uint8_t *scratch)
 {
     klov_answer a = klov_fetch(file->at, file->len, (size_t)place, (size_t)size, scratch, KLOV_FRAME);
-    if (a.refusal == 0)
-        a = klov_show(file->at, file->len, (size_t)place, (size_t)size, scratch, KLOV_FRAME);
-    if (a.refusal != 0)
+    if (a.refusal != KLOV_ANSWERED)
         fail("a frame was refused by %llu", (unsigned long long)a.refusal);
     return a.first == 0 ? file->at + a.second : scratch;
 }
@@ -355,10 +554,7 @@ static void put_frames(struct intake *it, const struct bytes *file, const uint32
         klov_answer frame = klov_frame(segment[0], segment[1], k);
         if (frame.second == 0)
             break;
-        if (frame.second < KLOV_FRAME)
-            note_short(it, it->handed);
-        put(it, look(file, frame.first, frame.second, scratch), (size_t)frame.second);
-        it->handed++;
+        put(it, look(file, frame.first, frame.second, scratch), (size_t)frame.second, frame.second, KLOV_FRAME);
     }
 }
 
@@ -371,20 +567,17 @@ static enum outcome whole_qp(struct intake *it, const struct bytes *file)
     klov_answer a = klov_demux_ds2_qp(file->at, file->len, (uint32_t *)table.at, 0);
     make_room(&table, a.beside, KLOV_QP_WORDS * sizeof(uint32_t));
     a = klov_demux_ds2_qp(file->at, file->len, (uint32_t *)table.at, table.room / sizeof(uint32_t));
-    if (a.refusal == 0)
-        for (uint64_t i = 0; i < a.first; i++)
-            put_frames(it, file, (uint32_t *)table.at + KLOV_QP_WORDS * i);
-    it->owed = a.second - it->handed;
+    for (uint64_t i = 0; i < a.first; i++)
+        put_frames(it, file, (uint32_t *)table.at + KLOV_QP_WORDS * i);
     drop(&table);
-    return a.refusal == 0 ? DONE : refused(it, a.refusal, a.beside);
+    return a.refusal == KLOV_ANSWERED ? READ : refused(it, a.refusal, a.beside);
 }
 
 static void put_record(struct intake *it, const struct bytes *file, uint32_t place)
 {
     uint8_t scratch[KLOV_FRAME] = {0};
-    uint64_t size = look(file, place, 2, scratch)[1] >= 0x80 ? KLOV_FRAME : 12;
-    put(it, look(file, place, size, scratch), (size_t)size);
-    it->handed++;
+    uint64_t size = KLOV_RECORD(look(file, place, 2, scratch)[1]);
+    put(it, look(file, place, size, scratch), (size_t)size, size, size);
 }
 
 static enum outcome whole_qp7(struct intake *it, const struct bytes *file, const klov_tallied *t)
@@ -397,101 +590,85 @@ static enum outcome whole_qp7(struct intake *it, const struct bytes *file, const
     make_room(&segments, t->blocks, KLOV_QP7_WORDS * sizeof(uint32_t));
     klov_answer a = klov_demux_ds2_qp7(file->at, file->len, (uint32_t *)records.at, records.room / sizeof(uint32_t),
                                        (uint32_t *)segments.at, segments.room / sizeof(uint32_t));
-    if (a.refusal == 0)
-        for (uint64_t i = 0; i < a.first; i++)
-            put_record(it, file, ((uint32_t *)records.at)[i]);
+    for (uint64_t i = 0; i < a.first; i++)
+        put_record(it, file, ((uint32_t *)records.at)[i]);
     drop(&records);
     drop(&segments);
-    return a.refusal == 0 ? DONE : refused(it, a.refusal, a.beside);
+    return a.refusal == KLOV_ANSWERED ? READ : refused(it, a.refusal, a.beside);
 }
 
-static enum outcome whole_kind(struct intake *it, const struct bytes *file)
+static enum outcome whole_kind(struct intake *it, const struct bytes *file, const klov_tallied *t)
 {
-    klov_tallied t = klov_tally(file->at, file->len);
-    if (t.refusal != 0)
-        return refused(it, t.refusal, t.beside);
-    it->cut = (file->len - t.start) % BLOCK;
-    if (t.kind == DSS_SP) /* a reader takes every DSS recording, and gives no 7 */
-        fail("%s: it should have been read in pieces", it->recording);
-    if (t.kind == DS2_SP)
-        return whole_sp(it, file, &t);
-    return t.kind == DS2_QP ? whole_qp(it, file) : whole_qp7(it, file, &t);
-}
-
-static void open_output(struct intake *it)
-{
-    it->out = fopen(it->packets, "wb");
-    if (it->out == NULL)
-        fail("%s: cannot be written", it->packets);
-}
-
-/* Whether the two are one file, which writing the packets would destroy. */
-static bool same_file(const char *one, const char *other)
-{
-    struct stat a, b;
-    return stat(one, &a) == 0 && stat(other, &b) == 0 && a.st_dev == b.st_dev && a.st_ino == b.st_ino;
-}
-
-static void close_output(struct intake *it)
-{
-    if (fclose(it->out) != 0)
-        fail("%s: cannot be written", it->packets);
-}
-
-/* Throws away what was written and counted, and goes back to the recording's start. No packet was short so far: until its end
- * a reader hands out complete ones. */
-static void start_anew(struct intake *it)
-{
-    close_output(it);
-    open_output(it);
-    if (fseek(it->in, 0, SEEK_SET) != 0)
-        fail("%s: cannot be read", it->recording);
-    drop(&it->sizes.runs);
-    it->sizes = (struct sizes){0};
-    it->handed = 0;
+    if (t->kind == KLOV_DS2_SP)
+        return whole_sp(it, file, t);
+    if (t->kind == KLOV_DS2_QP)
+        return whole_qp(it, file);
+    if (t->kind != KLOV_DS2_QP7) /* a reader takes every DSS recording, and gives no 7 */
+        fail("%s: it should have been read in pieces", it->in.name);
+    return whole_qp7(it, file, t);
 }
 
 static enum outcome read_whole(struct intake *it)
 {
-    struct bytes file = {0};
-    const size_t most = (size_t)KLOV_LIMIT + 1, part = 1u << 20;
+    const struct bytes *file = &it->in.held;
     start_anew(it);
-    /* One byte over the limit is enough to be refused. */
-    while (file.len < most && read_more(it, &file, most - file.len < part ? most - file.len : part) > 0)
-        ;
-    enum outcome outcome = whole_kind(it, &file);
-    drop(&file);
+    hold_all(&it->in);
+    klov_tallied t = klov_tally(file->at, file->len);
+    if (t.refusal != KLOV_ANSWERED)
+        return refused(it, t.refusal, t.beside);
+    enum outcome outcome = whole_kind(it, file, &t);
+    if (outcome != READ)
+        return outcome;
+    hold_to_tally(it, &t);
+    it->complete = klov_complete_as_announced(&t, file->len);
+    it->cut = file->len - (t.start + KLOV_BLOCK * t.blocks);
+    /* SP packets that are owed are handed out all the same, and are short */
+    it->owed = t.kind == KLOV_DS2_SP ? t.short_count : t.announced - t.handed;
     return outcome;
 }
+
+/* What is printed. */
 
 static void print_shorts(const struct intake *it)
 {
     const struct range *ranges = (const struct range *)it->shorts.at;
-    size_t n = it->shorts.len / sizeof(struct range);
-    if (n == 0)
-        printf(" none");
-    for (size_t i = 0; i < n; i++) {
-        printf(" %llu", (unsigned long long)ranges[i].from);
+    printf("%llu short", (unsigned long long)it->short_count);
+    for (size_t i = 0; i < it->shorts.len / sizeof(struct range); i++) {
+        printf(i == 0 ? ": %llu" : " %llu", (unsigned long long)ranges[i].from);
         if (ranges[i].to > ranges[i].from)
             printf("-%llu", (unsigned long long)ranges[i].to);
     }
 }
 
-static int print_line(const struct intake *it, enum outcome outcome)
+static enum status print_line(const struct intake *it, enum outcome outcome)
 {
-    if (outcome == REFUSED) {
-        printf("refused %llu %llu\n", (unsigned long long)it->refusal, (unsigned long long)it->beside);
-        return EXIT_REFUSED;
+    unsigned long long handed = it->handed, beside = it->beside;
+    if (outcome == IS_REFUSED) {
+        printf("refused %llu %llu: ", (unsigned long long)it->refusal, beside);
+        printf(klov_refusal_text(it->refusal), beside);
+    } else if (it->complete) {
+        printf("complete as announced: %llu %s", handed, it->unit);
+    } else {
+        printf("incomplete: %llu %s, %llu bytes of a cut block, %llu frames owed, ", handed, it->unit, (unsigned long long)it->cut,
+               (unsigned long long)it->owed);
+        print_shorts(it);
     }
-    if (it->cut == 0 && it->owed == 0 && it->short_count == 0) {
-        printf("complete: %llu %s\n", (unsigned long long)it->handed, it->unit);
-        return EXIT_COMPLETE;
-    }
-    printf("incomplete: %llu %s, %llu bytes of a cut block, %llu frames owed, short:", (unsigned long long)it->handed, it->unit,
-           (unsigned long long)it->cut, (unsigned long long)it->owed);
-    print_shorts(it);
     printf("\n");
-    return EXIT_INCOMPLETE;
+    return outcome == IS_REFUSED ? REFUSED : it->complete ? COMPLETE : INCOMPLETE;
+}
+
+static void flush_line(void)
+{
+    if (fflush(stdout) != 0 || ferror(stdout))
+        fail_at("standard output");
+}
+
+/* The command line. */
+
+static void misused(const char *what, const char *argument)
+{
+    fprintf(stderr, "intake: %s%s; --help tells more\n", what, argument);
+    exit(WRONG_USE);
 }
 
 /* A decimal number from 1 on. A piece over the limit is refused however long it is, so a longer one is never read. */
@@ -510,29 +687,59 @@ static size_t piece_size(const char *digits)
     return (size_t)n;
 }
 
+static void option(struct intake *it, const char *argument)
+{
+    if (strcmp(argument, "--help") == 0) {
+        fputs(help, stdout);
+        flush_line();
+        exit(COMPLETE);
+    }
+    if (strcmp(argument, "--force") != 0)
+        misused("there is no option ", argument);
+    it->force = true;
+}
+
+static void command_line(struct intake *it, int argc, char **argv)
+{
+    const char *names[3] = {NULL, NULL, NULL};
+    int given = 0;
+    bool options = true;
+    for (int i = 1; i < argc; i++) {
+        if (options && strcmp(argv[i], "--") == 0)
+            options = false;
+        else if (options && argv[i][0] == '-' && argv[i][1] != '\0')
+            option(it, argv[i]);
+        else if (given++ < 3)
+            names[given - 1] = argv[i];
+    }
+    if (given < 2 || given > 3)
+        misused("it takes RECORDING PACKETS [PIECE]", "");
+    it->in.name = names[0];
+    it->packets = names[1];
+    it->piece = given == 3 ? piece_size(names[2]) : DEFAULT_PIECE;
+    if (it->piece == 0)
+        misused("PIECE is a number of bytes from 1 on, and not ", names[2]);
+}
+
 int main(int argc, char **argv)
 {
-    struct intake it = {.piece = DEFAULT_PIECE, .unit = "packets"};
-    if (argc == 4)
-        it.piece = piece_size(argv[3]);
-    if (argc < 3 || argc > 4 || it.piece == 0)
-        fail("usage: intake RECORDING PACKETS [PIECE], with a PIECE of at least 1");
-    it.recording = argv[1];
-    it.packets = argv[2];
-    it.in = fopen(it.recording, "rb");
-    if (it.in == NULL)
-        fail("%s: cannot be read", it.recording);
-    if (same_file(it.recording, it.packets))
-        fail("%s: this is the recording itself", it.packets);
+    struct intake it = {.unit = "packets"};
+    signal(SIGPIPE, SIG_IGN); /* so that a line nobody reads is a failure like any other */
+    command_line(&it, argc, argv);
+    if (klov_version() != KLOV_VERSION)
+        fail("the archive has version %llu, and this program is for version %u", (unsigned long long)klov_version(), KLOV_VERSION);
+    open_input(&it.in);
+    look_at_output(&it);
     open_output(&it);
     enum outcome outcome = read_in_pieces(&it);
-    if (outcome == READ_WHOLE)
+    if (outcome == READS_WHOLE)
         outcome = read_whole(&it);
-    fclose(it.in);
-    close_output(&it);
-    int status = print_line(&it, outcome);
-    if (fflush(stdout) != 0)
-        fail("standard output: cannot be written");
+    if (outcome == READ)
+        put_in_place(&it);
+    remove_temporary();
+    enum status status = print_line(&it, outcome);
+    flush_line();
+    drop(&it.in.held);
     drop(&it.sizes.runs);
     drop(&it.shorts);
     return status;

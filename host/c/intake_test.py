@@ -1,19 +1,39 @@
 #!/usr/bin/env python3
 """Compares an intake program with its description: intake_test.py PROGRAM [RUNNER].
 
-The expected line, packets file and exit status come from a model written here from the format's description; it knows nothing of
-the library, nor of pieces. Every recording is read in pieces of several sizes. Prints how many runs there were, and how many
-of them were wrong.
+The expected line, packets file and exit status come from a model written here from the format's description (docs/FORMAT.md); it knows
+nothing of the library, nor of pieces. The sentences of refusals are the header's, and the text of --help is the C program's. Every
+recording is read in pieces of several sizes, and through a pipe. Prints how many runs there were, and how many of them were wrong.
 """
 import os
 import random
+import re
+import resource
 import subprocess
 import sys
 import tempfile
+import time
 
 BLOCK, HEAD, PAYLOAD, LIMIT = 512, 6, 506, 268435456
+COMPLETE, INCOMPLETE, REFUSED, FAILED, WRONG_USE = 0, 1, 3, 4, 64
 PIECES = (1, 7, 512, None, 100000)  # None: no argument, which means 4096
 LONG = 20000  # a longer recording is not read byte by byte, which takes long under an emulator
+LEFT = b"left over" * 20000  # what is in the packets file before
+
+
+def source(name):
+    with open(os.path.join(os.path.dirname(os.path.abspath(__file__)), name), encoding="utf-8") as f:
+        return f.read()
+
+
+def literals(text, begin, end):
+    """The strings of C between two marks."""
+    part = text[text.index(begin) + len(begin):]
+    return [bytes(s, "ascii").decode("unicode_escape") for s in re.findall(r'"((?:[^"\\]|\\.)*)"', part[:part.index(end)])]
+
+
+SENTENCES = literals(source("../../include/klovdrun.h"), "texts[] = {", "};")
+HELP = "".join(literals(source("intake.c"), "help[] =", ";\n\n"))
 
 
 # The model: what a recording holds.
@@ -157,11 +177,15 @@ def in_ranges(numbers):
             spans[-1][1] = n
         else:
             spans.append([n, n])
-    return " ".join(str(a) if a == b else f"{a}-{b}" for a, b in spans) or "none"
+    return " ".join(str(a) if a == b else f"{a}-{b}" for a, b in spans)
+
+
+def refused(number, beside):
+    return f"refused {number} {beside}: {SENTENCES[number].replace('%llu', str(beside))}\n"
 
 
 def expected(data):
-    """The line, the packets file and the exit status."""
+    """The line, the packets file, if there is one, and the exit status."""
     try:
         rec = Recording(data)
         if rec.type == 7:
@@ -173,11 +197,12 @@ def expected(data):
             parts, short = sp_packets(rec)
             unit, owed = "packets", sp_owed(rec)
     except Refused as r:
-        return f"refused {r.args[0]} {r.args[1]}\n", b"", 2
-    if rec.cut == 0 and owed == 0 and not short:
-        return f"complete: {len(parts)} {unit}\n", b"".join(parts), 0
-    line = f"incomplete: {len(parts)} {unit}, {rec.cut} bytes of a cut block, {owed} frames owed, short: {in_ranges(short)}\n"
-    return line, b"".join(parts), 1
+        return refused(*r.args), None, REFUSED
+    if rec.cut == 0 and len(parts) == rec.announced and not short:
+        return f"complete as announced: {len(parts)} {unit}\n", b"".join(parts), COMPLETE
+    which = f": {in_ranges(short)}" if short else ""
+    line = f"incomplete: {len(parts)} {unit}, {rec.cut} bytes of a cut block, {owed} frames owed, {len(short)} short{which}\n"
+    return line, b"".join(parts), INCOMPLETE
 
 
 # The recordings.
@@ -213,6 +238,23 @@ class Maker:
             made.append(self.block(count, byte1 if dss or not flag else byte1 + 1, 0x8F if flag else 0x0F, kind))
         return made
 
+    def recorded(self, kind, dss=False, blocks=100):
+        """Blocks of any kind as a recorder makes them, with all that they announce."""
+        n = PAYLOAD * blocks // 12
+        sizes = {6: [56] * n, 7: self.rng.choices((12, 56), k=n)}.get(kind, [42, 40] * n)
+        stream = bytearray(self.rng.randrange(256) for _ in range(PAYLOAD * blocks))
+        made = []
+        for i, (first, which, count) in enumerate(laid(sizes, blocks)):
+            swapped = kind < 6 and which % 2 == 1
+            byte1 = (first + 6 - (2 if dss and swapped else 0)) // 2
+            made.append((0x8F if swapped else 0x0F, byte1, count))
+        if kind == 7:
+            place = 0
+            for size in sizes[:sum(count for _, _, count in made)]:
+                stream[place + 1] = stream[place + 1] % 128 + (128 if size == 56 else 0)
+                place += size
+        return [self.block(count, byte1, flag, kind, bytes(stream[PAYLOAD * i:PAYLOAD * (i + 1)])) for i, (flag, byte1, count) in enumerate(made)]
+
     def records(self, count):
         """QP7 records joined; about half of them long."""
         made = b""
@@ -221,6 +263,18 @@ class Maker:
             rest = bytes(self.rng.randrange(256) for _ in range(54 if long else 10))
             made += bytes((self.rng.randrange(256), self.rng.randrange(128) + (128 if long else 0))) + rest
         return made
+
+
+def laid(sizes, blocks):
+    """Items without a gap, as many as fit: of each block where in it its first item begins, which one that is, and how many begin in it."""
+    made, item, place = [], 0, 0
+    for i in range(blocks):
+        first, which = place - PAYLOAD * i, item
+        while place < PAYLOAD * (i + 1) and place + sizes[item] <= PAYLOAD * blocks:
+            place += sizes[item]
+            item += 1
+        made.append((first, which, item - which))
+    return made
 
 
 def ds2_named(m):
@@ -353,6 +407,35 @@ def random_recording(m):
     return m.file(magic, start, *blocks, tail=b"\x11" * r.choice((0, 0, r.randrange(512))))
 
 
+def damages(b, i=40):
+    """Twelve ways in which the blocks of a recording are damaged."""
+    head, payload = b[i][:HEAD], b[i][HEAD:]
+    yield "a block zeroed", b[:i] + [bytes(BLOCK)] + b[i + 1:]
+    yield "a block of FF", b[:i] + [b"\xff" * BLOCK] + b[i + 1:]
+    yield "a block lost", b[:i] + b[i + 1:]
+    yield "a block doubled", b[:i + 1] + b[i:]
+    yield "a payload zeroed", b[:i] + [head + bytes(PAYLOAD)] + b[i + 1:]
+    yield "a count of 0", b[:i] + [head[:2] + b"\0" + head[3:] + payload] + b[i + 1:]
+    yield "a count one more", b[:i] + [head[:2] + bytes((head[2] + 1,)) + head[3:] + payload] + b[i + 1:]
+    yield "the last ten blocks zeroed", b[:-10] + [bytes(BLOCK)] * 10
+    yield "the last block lost", b[:-1]
+    yield "the last block cut", b[:-1] + [b[-1][:300]]
+    yield "two neighbours exchanged", b[:i] + [b[i + 1], b[i]] + b[i + 2:]
+    yield "a header zeroed", b[:i] + [bytes(HEAD) + payload] + b[i + 1:]
+
+
+def damaged():
+    """A recording of each kind, as a recorder makes it, and damaged."""
+    m = Maker(21)
+    for name, magic, start, kind in (("ds2 sp", b"\x01ds2", 1536, 0), ("dss", b"\x02dss", 1024, 0), ("qp", b"\x03ds2", 1536, 6),
+                                     ("qp7", b"\x01ds2", 1536, 7)):
+        blocks = m.recorded(kind, dss=magic[3:] == b"s")
+        before = m.file(magic, start)
+        assert expected(before + b"".join(blocks))[2] == COMPLETE, name
+        for damage, left in damages(blocks):
+            yield f"{name}, {damage}", before + b"".join(left)
+
+
 def recordings():
     m = Maker(20)
     for named in (ds2_named, dss_named, qp_named, qp7_named, seven_named, other_named):
@@ -363,108 +446,305 @@ def recordings():
 
 # The runs.
 
+def contents(path):
+    if not os.path.lexists(path):
+        return None
+    with open(path, "rb") as f:
+        return f.read()
+
+
+def write(path, data):
+    """A new file; None: no file."""
+    if os.path.lexists(path):
+        os.remove(path)
+    if data is not None:
+        with open(path, "wb") as f:
+            f.write(data)
+
+
 class Trial:
     def __init__(self, command, folder):
         self.command = command
         self.recording = os.path.join(folder, "recording")
-        self.packets = os.path.join(folder, "packets")
+        self.folder = os.path.join(folder, "out")
+        os.mkdir(self.folder)
+        self.packets = os.path.join(self.folder, "packets")
         self.runs = self.wrong = 0
 
-    def run(self, name, arguments, holds):
-        """One run; `holds` says of a finished run what is wrong with it, or nothing."""
-        done = subprocess.run(self.command + arguments, capture_output=True)
-        self.runs += 1
-        complaint = holds(done)
+    def hold(self, name, complaint):
         if complaint:
             self.wrong += 1
-            print(f"wrong: {name}, {' '.join(arguments[2:]) or 'no piece'}: {complaint}")
+            print(f"wrong: {name}: {complaint}")
 
-    def read(self, name, data, piece, want):
-        line, parts, status = want
+    def run(self, name, arguments, want, says="", command=None, **given):
+        """One run. It has to print that line, leave those bytes in the packets file and nothing else in its folder, and end with that
+        status; with a failure, one line on standard error that says so."""
+        line, packets, status = want
+        before = set(os.listdir(self.folder))
+        if "input" not in given:
+            given.setdefault("stdin", subprocess.DEVNULL)
+        given.setdefault("stdout", subprocess.PIPE)
+        done = subprocess.run((command or self.command) + arguments, stderr=subprocess.PIPE, timeout=300, **given)
+        self.runs += 1
+        out, errors = (done.stdout or b"").decode("latin-1"), done.stderr.decode("latin-1")
+        complaint = ""
+        if (out, done.returncode) != (line, status):
+            complaint = f"expected {status} {line!r}, got {done.returncode} {out!r} {errors!r}"
+        elif status in (FAILED, WRONG_USE) and not re.fullmatch(rf"intake: [^\n]*{re.escape(says)}[^\n]*\n", errors):
+            complaint = f"expected a line with {says!r} on standard error, got {errors!r}"
+        elif status not in (FAILED, WRONG_USE) and errors:
+            complaint = f"expected nothing on standard error, got {errors!r}"
+        elif os.path.isfile(self.packets) or packets is not None:
+            got = contents(self.packets)
+            if got != packets:
+                complaint = f"packets file: expected {packets and len(packets)} bytes, got {got and len(got)}, or others"
+        left = set(os.listdir(self.folder)) - before - {"packets"}
+        self.hold(f"{name}, {' '.join(arguments)}", complaint or (f"left: {left}" if left else ""))
 
-        def holds(done):
-            got = b""
-            if os.path.exists(self.packets):
-                with open(self.packets, "rb") as f:
-                    got = f.read()
-            if (done.stdout.decode("latin-1"), done.returncode) != (line, status):
-                return f"expected {status} {line!r}, got {done.returncode} {done.stdout!r} {done.stderr!r}"
-            return "" if got == parts else f"packets file: expected {len(parts)} bytes, got {len(got)}, or others"
+    def read(self, name, data, want, piece=None, by="file", force=False):
+        """Reads a recording from a file or, by `-` or by name, from a pipe. With force there is a packets file, and it is replaced."""
+        line, packets, status = want
+        write(self.recording, data)
+        write(self.packets, LEFT if force else None)
+        if packets is None and force:
+            packets = LEFT
+        arguments = (["--force"] if force else []) + [self.recording if by == "file" else by, self.packets]
+        given = {} if by == "file" else {"input": data}
+        self.run(name, arguments + ([str(piece)] if piece else []), (line, packets, status), **given)
 
-        with open(self.recording, "wb") as f:
-            f.write(data)
-        if os.path.exists(self.packets):
-            os.remove(self.packets)
-        if status != 2:  # what an earlier run has left must not stay
-            with open(self.packets, "wb") as f:
-                f.write(b"left over" * 50000)
-        self.run(name, [self.recording, self.packets] + ([str(piece)] if piece else []), holds)
+    def fails(self, name, arguments, says, status=FAILED, packets=None, **given):
+        self.run(name, arguments, ("", packets, status), says, **given)
 
-    def sparse(self, name, magic, length, want):
-        """A recording of zeros and of a length that is not held in memory here."""
-        with open(self.recording, "wb") as f:
-            f.write(magic)
-            f.truncate(length)
-        if os.path.exists(self.packets):
-            os.remove(self.packets)
-        status = 0 if want.startswith("complete") else 2
-        self.run(name, [self.recording, self.packets, "1048576"],
-                 lambda d: "" if (d.stdout.decode(), d.returncode) == (want, status) else f"expected {status} {want!r}, got {d!r}")
 
-    def fails(self, name, arguments):
-        """A run that has to end with 2, a line on standard error and none on standard output."""
-        def holds(done):
-            fine = done.returncode == 2 and done.stdout == b"" and done.stderr.count(b"\n") == 1 and done.stderr.endswith(b"\n")
-            return "" if fine else f"expected 2 and one line on standard error, got {done!r}"
-        self.run(name, arguments, holds)
+def read_all(trial):
+    """Every recording in pieces of every size, and once through a pipe; how many there were of each outcome."""
+    seen = {}
+    for n, (name, data) in enumerate(recordings()):
+        want = expected(data)
+        outcome = " ".join(want[0].replace(":", "").split(" ")[:2]) if want[2] == REFUSED else want[0].split(":")[0]
+        seen[outcome] = seen.get(outcome, 0) + 1
+        pieces = PIECES[1 if len(data) > LONG else 0:]
+        for piece in pieces:
+            trial.read(name, data, want, piece, force=piece == 512)
+        trial.read(name, data, want, pieces[n % len(pieces)], by="/dev/stdin" if n % 10 == 0 else "-")
+    return seen
+
+
+def read_damaged(trial):
+    """How many damaged recordings there are of each outcome: what is complete as announced for all that nobody can tell."""
+    seen = {COMPLETE: 0, INCOMPLETE: 0, REFUSED: 0}
+    for name, data in damaged():
+        want = expected(data)
+        seen[want[2]] += 1
+        trial.read(name, data, want)
+        trial.read(name, data, want, 512, by="-")
+    return f"of {sum(seen.values())} damaged recordings {seen[COMPLETE]} are complete as announced, {seen[INCOMPLETE]} incomplete, {seen[REFUSED]} refused"
+
+
+EMPTY = b"\x01ds2" + bytes(1532)
 
 
 def wrong_uses(trial, folder):
-    with open(trial.recording, "wb") as f:
-        f.write(b"\x01ds2" + bytes(1532))
     both = [trial.recording, trial.packets]
-    for piece in ("0", "-1", "x", "", "7x", " 7", "+7", "00"):
-        trial.fails(f"piece {piece!r}", both + [piece])
-    trial.fails("no arguments", [])
-    trial.fails("one argument", both[:1])
-    trial.fails("four arguments", both + ["1", "1"])
-    trial.fails("no such recording", [os.path.join(folder, "none"), trial.packets])
-    trial.fails("a folder for a recording", [folder, trial.packets])
-    trial.fails("packets in no folder", [trial.recording, os.path.join(folder, "none", "packets")])
-    itself = os.path.join(folder, "itself")
-    os.symlink(trial.recording, itself)
-    for packets in (trial.recording, itself):
-        trial.fails("the recording itself for packets", [trial.recording, packets])
-    if os.path.getsize(trial.recording) != 1536:
-        trial.wrong += 1
-        print("wrong: the recording itself for packets: it was written over")
-    trial.read("a huge piece", b"\x01ds2" + bytes(1532), 10 ** 30, expected(b"\x01ds2" + bytes(1532)))
+    write(trial.recording, EMPTY)
+    write(trial.packets, None)
+    for piece in ("0", "x", "", "7x", " 7", "+7", "00"):
+        trial.fails(f"piece {piece!r}", both + [piece], f"and not {piece}; --help tells more", WRONG_USE)
+    for option in ("-1", "--forces", "-f", "--help=1"):
+        trial.fails(f"option {option}", both + [option], f"no option {option}; --help tells more", WRONG_USE)
+    for names in ([], both[:1], both + ["1", "1"], ["--force"] + both[:1], ["--"]):
+        trial.fails("names", names, "it takes RECORDING PACKETS [PIECE]; --help tells more", WRONG_USE)
+    trial.run("help", ["--help"], (HELP, None, COMPLETE))
+    trial.run("help beside others", ["--force", *both, "--help", "-x"], (HELP, None, COMPLETE))
+    for missing in ("none", "none/recording"):
+        name = os.path.join(folder, missing)
+        trial.fails("no such recording", [name, trial.packets], f"{name}: No such file or directory")
+    trial.fails("a folder for a recording", [folder, trial.packets], f"{folder}: Is a directory")
+    trial.read("a huge piece", EMPTY, expected(EMPTY), 10 ** 30)
+    write(os.path.join(trial.folder, "--force"), EMPTY)
+    write(trial.packets, None)
+    trial.run("names after --", ["--", "--force", "packets", "9"], expected(EMPTY), cwd=trial.folder)
+    os.remove(os.path.join(trial.folder, "--force"))
+    write(trial.packets, LEFT)
+    trial.run("options last", both + ["9", "--force"], expected(EMPTY))
+
+
+def not_replaced(trial, folder):
+    """What is there stays as it was, but for a file with --force."""
+    other = Maker(22).file(b"\x02dss", 1024, tail=b"another recording")
+    write(trial.recording, EMPTY)
+    for left in (LEFT, other, b""):
+        write(trial.packets, left)
+        trial.fails("there already", [trial.recording, trial.packets], f"{trial.packets}: it is there already; --force replaces it", packets=left)
+    os.remove(trial.packets)
+    for name, make in (("by name", None), ("by a symlink", os.symlink), ("by a hard link", os.link)):
+        packets = os.path.join(trial.folder, "itself") if make else trial.recording
+        if make:
+            make(trial.recording, packets)
+        for options in ([], ["--force"]):
+            trial.fails(f"itself {name}", options + [trial.recording, packets], f"{packets}: it is the recording itself")
+            with open(trial.recording, "rb") as f:
+                trial.fails(f"itself {name}, as input", options + ["-", packets], f"{packets}: it is the recording itself", stdin=f)
+        trial.hold(f"itself {name}", "" if contents(packets) == EMPTY else "the recording was written over")
+        if make:
+            os.remove(packets)
+    fifo = os.path.join(trial.folder, "fifo")
+    os.mkfifo(fifo)
+    for packets in (folder, trial.folder + "/", fifo, "/dev/null"):
+        for options in ([], ["--force"]):
+            kind = os.lstat(packets).st_mode
+            trial.fails("not a file", options + [trial.recording, packets], f"{packets}: it is not a file")
+            trial.hold("not a file", "" if os.lstat(packets).st_mode == kind else f"{packets} was replaced")
+    os.remove(fifo)
+
+
+def links_replaced(trial, folder):
+    """With --force a link is replaced, and what it leads to is left."""
+    target = os.path.join(folder, "target")
+    for name, make in (("dangling", None), ("to a file", lambda: write(target, LEFT)), ("to a folder", lambda: os.mkdir(target))):
+        if make:
+            make()
+        before = os.path.lexists(target) and os.lstat(target)
+        write(trial.packets, None)
+        os.symlink(target, trial.packets)
+        done = subprocess.run(trial.command + [trial.recording, trial.packets], capture_output=True, stdin=subprocess.DEVNULL)
+        trial.runs += 1
+        fine = done.returncode == FAILED and b"it is there already" in done.stderr and os.readlink(trial.packets) == target
+        trial.hold(f"a link {name}", "" if fine else f"expected the link to stay, got {done!r}")
+        trial.run(f"a link {name}", ["--force", trial.recording, trial.packets], expected(EMPTY))
+        after = os.path.lexists(target) and os.lstat(target)
+        same = before == after if not before else (after and (before.st_ino, before.st_mtime_ns) == (after.st_ino, after.st_mtime_ns))
+        trial.hold(f"a link {name}", "" if same and not os.path.islink(trial.packets) else "the link was not replaced, or its target was")
+        if make:
+            os.rmdir(target) if os.path.isdir(target) else os.remove(target)
+
+
+def failing_outputs(trial, folder):
+    data = Maker(23).file(b"\x01ds2", 1536, *Maker(23).continuous(9, dss=False))
+    write(trial.packets, None)
+    for options in ([], ["--force"]):
+        packets = os.path.join(folder, "none", "packets")
+        trial.fails("packets in no folder", options + [trial.recording, packets], f"{packets}: No such file or directory")
+    packets = trial.recording + "/packets"
+    trial.fails("packets in a file", [trial.recording, packets], f"{packets}: Not a directory")
+
+    def small_files():
+        resource.setrlimit(resource.RLIMIT_FSIZE, (1000, 1000))
+
+    for left in (None, LEFT):
+        write(trial.recording, data)
+        write(trial.packets, left)
+        # the signal that goes with it is ignored, as Python does
+        trial.fails("no room for packets", ["--force", trial.recording, trial.packets], f"{trial.packets}: File too large", packets=left,
+                    preexec_fn=small_files, restore_signals=False)
+    write(trial.packets, None)
+    with open("/dev/full", "wb") as full:
+        line, parts, _ = expected(data)
+        trial.run("no room for the line", [trial.recording, trial.packets], ("", parts, FAILED), "standard output: No space left on device", stdout=full)
+        trial.run("no room for the help", ["--help"], ("", parts, FAILED), "standard output: No space left on device", stdout=full)
+
+
+def made_meanwhile(trial):
+    """A packets file that is made while the recording is read is not overwritten."""
+    for force in ([], ["--force"]):
+        write(trial.packets, None)
+        with subprocess.Popen(trial.command + force + ["-", trial.packets], stdin=subprocess.PIPE, stdout=subprocess.PIPE,
+                              stderr=subprocess.PIPE) as program:
+            program.stdin.write(EMPTY[:1000])
+            program.stdin.flush()
+            while program.poll() is None and not os.listdir(trial.folder):
+                time.sleep(0.01)
+            names = os.listdir(trial.folder)
+            write(trial.packets, LEFT)
+            out, errors = program.communicate(EMPTY[1000:], timeout=300)
+        trial.runs += 1
+        want = expected(EMPTY) if force else ("", LEFT, FAILED)
+        fine = (out.decode(), contents(trial.packets), program.returncode) == want
+        fine = fine and names == [f".intake-{program.pid}"] and os.listdir(trial.folder) == ["packets"]
+        trial.hold("made meanwhile", "" if fine else f"got {program.returncode} {out!r} {errors!r}, temporary {names}")
+
+
+def taken_name(trial):
+    """A file with the temporary file's name is left alone. The shell's process number becomes the program's."""
+    write(trial.recording, EMPTY)
+    write(trial.packets, None)
+    shell = ["sh", "-c", 'echo mine >"$0/.intake-$$"; echo mine >"$0/.intake-$$-1"; exec "$@"', trial.folder]
+    done = subprocess.run(shell + trial.command + [trial.recording, trial.packets], capture_output=True, stdin=subprocess.DEVNULL)
+    trial.runs += 1
+    others = [os.path.join(trial.folder, n) for n in os.listdir(trial.folder) if n != "packets"]
+    fine = (done.stdout.decode(), contents(trial.packets), done.returncode) == expected(EMPTY)
+    trial.hold("taken name", "" if fine and [contents(n) for n in others] == [b"mine\n"] * 2 else f"got {done!r}, {others}")
+    for name in others:
+        os.remove(name)
+
+
+def standard_input(trial):
+    """Standard input that can be gone back in, and in which the recording does not begin at the front."""
+    m = Maker(24)
+    silent = [m.block(0) for _ in range(30)]
+    for name, data in (("sp refused by 7", m.file(b"\x01ds2", 1536, *m.continuous(9, dss=False), *silent, m.block(9))),
+                       ("qp", m.file(b"\x01ds2", 1536, m.block(9, kind=6), m.block(12, kind=6))),
+                       ("dss, incomplete", m.file(b"\x02dss", 1024, *m.continuous(9, dss=True)))):
+        write(trial.recording, b"\x02dss before" + data)
+        write(trial.packets, None)
+        with open(trial.recording, "rb", buffering=0) as f:
+            f.seek(11)
+            trial.run(f"standard input, {name}", ["-", trial.packets, "700"], expected(data), stdin=f)
+
+
+def sparse(trial, magic, length):
+    """A recording of zeros and of a length that is not held in memory here."""
+    with open(trial.recording, "wb") as f:
+        f.write(magic)
+        f.truncate(length)
+    write(trial.packets, None)
+    return ("complete as announced: 0 packets\n", b"", COMPLETE) if length <= LIMIT else (refused(2, LIMIT), None, REFUSED)
 
 
 def over_the_limit(trial):
     """Zeros: all blocks are silent. A DS2 recording is then read whole, a DSS one in pieces to its end."""
-    for magic in (b"\x01ds2", b"\x02dss", b"\x07ds2"):
-        trial.sparse(f"at the limit, {magic}", magic, LIMIT, "complete: 0 packets\n")
-        trial.sparse(f"over the limit, {magic}", magic, LIMIT + 1, f"refused 2 {LIMIT}\n")
-    trial.sparse("far over the limit", b"\x07ds2", 3 * LIMIT, f"refused 2 {LIMIT}\n")
+    for magic, length in ((b"\x01ds2", LIMIT), (b"\x02dss", LIMIT), (b"\x07ds2", LIMIT), (b"\x01ds2", LIMIT + 1), (b"\x02dss", LIMIT + 1),
+                          (b"\x07ds2", LIMIT + 1), (b"\x07ds2", 3 * LIMIT)):
+        want = sparse(trial, magic, length)
+        trial.run(f"{length} bytes, {magic}", [trial.recording, trial.packets, "1048576"], want)
+    for magic, length, most in ((b"\x01ds2", LIMIT + 1, LIMIT), (b"\x02dss", LIMIT + 1, 0), (b"\x07ds2", 3 * LIMIT, LIMIT)):
+        want = sparse(trial, magic, length)
+        through_pipe(trial, f"{length} bytes through a pipe, {magic}", want, most)
+
+
+def through_pipe(trial, name, want, most):
+    """What is kept of a pipe's bytes is seen in the memory that the program has taken; the emulator takes some too."""
+    with subprocess.Popen(["cat", trial.recording], stdout=subprocess.PIPE, stderr=subprocess.DEVNULL) as cat:
+        program = subprocess.Popen(trial.command + ["-", trial.packets, "1048576"], stdin=cat.stdout, stdout=subprocess.PIPE)
+        cat.stdout.close()
+        with program.stdout as stdout:
+            line = stdout.read().decode()
+        _, status, usage = os.wait4(program.pid, 0)
+        program.returncode = os.waitstatus_to_exitcode(status)
+    trial.runs += 1
+    fine = (line, contents(trial.packets), program.returncode) == want and os.listdir(trial.folder) == []
+    trial.hold(name, "" if fine else f"expected {want!r}, got {program.returncode} {line!r}, {os.listdir(trial.folder)}")
+    trial.hold(name, "" if usage.ru_maxrss * 1024 < most + 80000000 else f"it has taken {usage.ru_maxrss} KiB of memory")
 
 
 def main():
     if len(sys.argv) not in (2, 3):
         sys.exit("usage: intake_test.py PROGRAM [RUNNER]")
     command = sys.argv[2:] + [os.path.abspath(sys.argv[1])]
-    seen = {}
     with tempfile.TemporaryDirectory() as folder:
         trial = Trial(command, folder)
-        for name, data in recordings():
-            want = expected(data)
-            outcome = want[0].split(":")[0].split(" ")
-            seen[tuple(outcome[:2])] = seen.get(tuple(outcome[:2]), 0) + 1
-            for piece in PIECES[1 if len(data) > LONG else 0:]:
-                trial.read(name, data, piece, want)
+        seen = read_all(trial)
+        damage = read_damaged(trial)
         wrong_uses(trial, folder)
+        not_replaced(trial, folder)
+        links_replaced(trial, folder)
+        failing_outputs(trial, folder)
+        made_meanwhile(trial)
+        taken_name(trial)
+        standard_input(trial)
         over_the_limit(trial)
-    kinds = ", ".join(f"{' '.join(k)} {n}" for k, n in sorted(seen.items()))
+    kinds = ", ".join(f"{k} {n}" for k, n in sorted(seen.items()))
+    print(f"intake_test: {damage}")
     print(f"intake_test: {sum(seen.values())} recordings ({kinds}), {trial.runs} runs, {trial.wrong} wrong")
     sys.exit(1 if trial.wrong else 0)
 

@@ -1,27 +1,65 @@
-// The intake program: it reads a recording in pieces, writes its packets, frames or records, and says in one line whether the
-// recording is complete and which packets are short. It rests on the crate's safe calls alone.
-//
-// Usage: intake RECORDING PACKETS [PIECE]. It exits with 0 (complete), 1 (incomplete), 2 (refused, or no way to read or write).
-use klovdrun::demux::ds2::{self, detect_ds2_format_type};
-use klovdrun::demux::AudioFormat;
-use klovdrun::{frames, tally, FilePlace, Packets, ReadSizes, Reader, Refusal, BLOCK, FRAME, LIMIT, PACKET};
-use std::ffi::OsString;
+// The intake program: it reads a recording, writes its packets, frames or records, and says in one line whether it is complete as
+// announced. It rests on the crate's safe calls, whose rule for that word it follows. SP recordings are read in pieces by a reader; what
+// a reader does not take is read whole. What it prints and its exit statuses are in `HELP`.
+use klovdrun::demux::{ds2, AudioFormat};
+use klovdrun::{frames, tally, FilePlace, Packets, ReadSizes, Reader, Refusal, Tally, BLOCK, DS2_START, FRAME, LIMIT, PACKET};
+use std::ffi::{OsStr, OsString};
 use std::fmt;
-use std::fs::File;
-use std::io::{self, BufReader, BufWriter, Read, Write};
+use std::fs::{self, File, Metadata, OpenOptions};
+use std::io::{self, BufReader, BufWriter, ErrorKind, Read, Seek, SeekFrom, Write};
+use std::os::unix::ffi::OsStrExt;
 use std::os::unix::fs::MetadataExt;
-use std::path::Path;
+use std::os::unix::io::AsFd;
+use std::path::{Path, PathBuf};
 use std::process::ExitCode;
 
-/// Where a DS2 recording's audio starts if its first byte is 1 or 3: the only ones that are read in pieces.
-const DS2_START: usize = 1536;
+/// Exit statuses. 2 is kept for a recording that is suspect, and never given.
+mod status {
+    pub const COMPLETE: u8 = 0;
+    pub const INCOMPLETE: u8 = 1;
+    pub const REFUSED: u8 = 3;
+    pub const FAILED: u8 = 4;
+    pub const WRONG_USE: u8 = 64;
+}
+
+const DEFAULT_PIECE: usize = 4096;
+/// How much is read at a time where the recording is read whole.
+const PART: usize = 1 << 20;
 /// Room for packets to begin with, and for each asking of the lenient end.
-const ROOM: usize = 64;
+const SOME_ROOM: usize = 64;
+/// How many temporary names are tried.
+const TRIES: usize = 100;
+/// The system's numbers for what says that a file system has no links: EPERM, ENOSYS, EOPNOTSUPP.
+const NO_LINKS: [i32; 3] = [1, 38, 95];
+
+const HELP: &str = "\
+usage: intake [--force] [--] RECORDING PACKETS [PIECE]
+
+Reads a dictation recording (DSS, DS2), writes its packets, frames or records to the file PACKETS, one after the other, and
+prints one line. RECORDING - is standard input. PIECE is how many bytes are read at a time, 4096 if it is not given.
+
+The line, and the exit status:
+  complete as announced: 1234 packets                                                  0
+  incomplete: 13 packets, 0 bytes of a cut block, 1 frames owed, 1 short: 12           1
+  refused 3 1536: the recording ends inside its header, which has 1536 bytes           3
+Complete as announced: all that the recording's blocks announce is there. A block that was lost or zeroed announces nothing, and
+nobody can tell. Owed are frames that are announced and are not there in full. Short are packets and frames of which bytes are
+missing, in a packet with zeros in their place; their numbers follow, counted from 0. A refused recording's packets are not written.
+
+The other exit statuses, with a line on standard error:
+  4   input or output failed; but for a line that could not be printed, PACKETS is as it was
+  64  wrong use
+Status 2 is not given.
+
+--force replaces a file PACKETS that is there already, which is else left as it is. Neither the recording itself nor anything
+that is not a file is ever replaced. A run that is killed may leave its temporary file .intake-PID beside PACKETS.
+";
 
 /// Why there is no report.
 enum Stop {
     Refused(Refusal),
-    Fault(String),
+    Failed(String),
+    Misused(String),
 }
 
 impl From<Refusal> for Stop {
@@ -32,155 +70,336 @@ impl From<Refusal> for Stop {
 
 type Outcome<T> = Result<T, Stop>;
 
-/// A file's fault, with the file's name.
-fn fault<T>(path: &Path, result: io::Result<T>) -> Outcome<T> {
-    result.map_err(|error| Stop::Fault(format!("{}: {error}", path.display())))
+fn failed<T>(name: &str, cause: &str) -> Outcome<T> {
+    Err(Stop::Failed(format!("{name}: {cause}")))
 }
 
-/// What the line says.
-struct Report {
-    unit: &'static str,
-    written: usize,
-    cut: usize,
-    owed: usize,
-    short: Vec<(usize, usize)>,
+/// A failure's cause in the system's words, without its number.
+fn cause(error: &io::Error) -> String {
+    let told = error.to_string();
+    told.split(" (os error").next().unwrap_or_default().to_string()
 }
 
-impl Report {
-    fn complete(&self) -> bool {
-        self.cut == 0 && self.owed == 0 && self.short.is_empty()
+/// An answer of the system; if it is a failure, with the name of what it is about.
+fn of_system<T>(name: &str, answer: io::Result<T>) -> Outcome<T> {
+    answer.or_else(|error| failed(name, &cause(&error)))
+}
+
+/// Room for so many bytes more, whose number comes from a file and may be large.
+fn reserve(bytes: &mut Vec<u8>, more: usize) -> Outcome<()> {
+    bytes.try_reserve(more).map_err(|_| Stop::Failed("out of memory".into()))
+}
+
+fn room_for(packets: usize) -> Outcome<Packets> {
+    let mut room = Packets::default();
+    reserve(&mut room.bytes, PACKET.saturating_mul(packets))?;
+    reserve(&mut room.counts, packets)?;
+    room.bytes.resize(PACKET * packets, 0);
+    room.counts.resize(packets, 0);
+    Ok(room)
+}
+
+/// The recording's bytes.
+struct Input {
+    name: String,
+    file: BufReader<File>,
+    /// Where the recording begins in it. None: it cannot be gone back in.
+    origin: Option<u64>,
+    /// All bytes so far, or the last piece alone, and where the last piece begins.
+    held: Vec<u8>,
+    keeps_all: bool,
+    piece: usize,
+    taken: usize,
+}
+
+impl Input {
+    fn open(name: &OsStr) -> Outcome<Input> {
+        let (name, file) = match name.as_bytes() {
+            b"-" => ("standard input".into(), io::stdin().as_fd().try_clone_to_owned().map(File::from)),
+            _ => (shown(Path::new(name)), File::open(name)),
+        };
+        let mut file = BufReader::new(of_system(&name, file)?);
+        let origin = file.stream_position().ok();
+        Ok(Input { name, file, origin, held: Vec::new(), keeps_all: true, piece: 0, taken: 0 })
+    }
+
+    /// Reads the next piece, which is shorter than asked for only at the recording's end, and says whether there was one. One byte over
+    /// the limit is enough to be refused, so that no more are read.
+    fn next_piece(&mut self, size: usize) -> Outcome<bool> {
+        let size = size.min(LIMIT + 1 - self.taken);
+        if !self.keeps_all {
+            self.held.clear();
+        }
+        self.piece = self.held.len();
+        reserve(&mut self.held, size)?;
+        let got = of_system(&self.name, self.file.by_ref().take(size as u64).read_to_end(&mut self.held))?;
+        self.taken += got;
+        Ok(got > 0)
+    }
+
+    fn last_piece(&self) -> &[u8] {
+        &self.held[self.piece..]
+    }
+
+    /// Whether the whole recording can be held.
+    fn is_at_hand(&self) -> bool {
+        self.keeps_all || self.origin.is_some()
+    }
+
+    /// The whole recording: goes on where all bytes so far are held, else goes back.
+    fn all(&mut self) -> Outcome<&[u8]> {
+        if !self.keeps_all {
+            // where that is not possible the seek says so
+            let back = self.origin.map_or(SeekFrom::Current(0), SeekFrom::Start);
+            of_system(&self.name, self.file.seek(back))?;
+            self.keeps_all = true;
+            self.held.clear();
+            self.taken = 0;
+        }
+        while self.next_piece(PART)? {}
+        Ok(&self.held)
     }
 }
 
-impl fmt::Display for Report {
-    fn fmt(&self, to: &mut fmt::Formatter<'_>) -> fmt::Result {
-        let Report { unit, written, cut, owed, .. } = self;
-        if self.complete() {
-            return write!(to, "complete: {written} {unit}");
+fn shown(path: &Path) -> String {
+    path.display().to_string()
+}
+
+/// A temporary file's name; the file is removed with it. After a renaming there is none.
+struct Temporary(PathBuf);
+
+impl Drop for Temporary {
+    fn drop(&mut self) {
+        let _ = fs::remove_file(&self.0);
+    }
+}
+
+/// Makes a file of a name that is not there yet, in the folder of PACKETS.
+fn make_temporary(packets: &Path) -> io::Result<(Temporary, File)> {
+    let bytes = packets.as_os_str().as_bytes();
+    let folder = &bytes[..bytes.iter().rposition(|&byte| byte == b'/').map_or(0, |slash| slash + 1)];
+    let mut tries = 0;
+    loop {
+        let mut name = OsStr::from_bytes(folder).to_os_string();
+        name.push(format!(".intake-{}", std::process::id()));
+        if tries > 0 {
+            name.push(format!("-{tries}"));
         }
-        write!(to, "incomplete: {written} {unit}, {cut} bytes of a cut block, {owed} frames owed, short:")?;
-        if self.short.is_empty() {
-            write!(to, " none")?;
+        tries += 1;
+        match OpenOptions::new().write(true).create_new(true).open(&name) {
+            Err(error) if error.kind() == ErrorKind::AlreadyExists && tries < TRIES => {}
+            made => return made.map(|file| (Temporary(name.into()), file)),
         }
-        for &(first, last) in &self.short {
-            if first == last {
-                write!(to, " {first}")?;
-            } else {
-                write!(to, " {first}-{last}")?;
-            }
-        }
+    }
+}
+
+/// Fails if PACKETS must not be written: asked before the recording is read, and again before the file is put in place.
+fn look_at_output(packets: &Path, force: bool, input: &Input) -> Outcome<()> {
+    let name = shown(packets);
+    let there = match fs::symlink_metadata(packets) {
+        Err(error) if error.kind() == ErrorKind::NotFound => return Ok(()),
+        there => of_system(&name, there)?,
+    };
+    let known = |file: &Metadata| (file.dev(), file.ino());
+    let recording = known(&of_system(&input.name, input.file.get_ref().metadata())?);
+    if fs::metadata(packets).map_or(false, |led_to| known(&led_to) == recording) {
+        failed(&name, "it is the recording itself")
+    } else if !there.is_file() && !there.file_type().is_symlink() {
+        failed(&name, "it is not a file")
+    } else if !force {
+        failed(&name, "it is there already; --force replaces it")
+    } else {
         Ok(())
     }
 }
 
-/// The file of packets, and what is known of those written: how many they are, and the ranges of short ones.
+/// What was handed out, counted here: packets, frames or records, how many of them are short, which, and the bytes of the file in all.
+#[derive(Default)]
+struct Counted {
+    handed: usize,
+    short: usize,
+    ranges: Vec<(usize, usize)>,
+    bytes: usize,
+}
+
+impl Counted {
+    /// One more, with so many bytes of the file, where a whole one has `whole`.
+    fn add(&mut self, of_file: usize, whole: usize) {
+        let number = self.handed;
+        self.handed += 1;
+        self.bytes += of_file;
+        if of_file < whole {
+            self.short += 1;
+            match self.ranges.last_mut() {
+                Some((_, last)) if *last + 1 == number => *last = number,
+                _ => self.ranges.push((number, number)),
+            }
+        }
+    }
+
+    /// Holds what was counted to the archive's tally of the whole file.
+    fn hold_to(&self, told: &Tally, unit: &str) -> Outcome<()> {
+        hold(unit, self.handed, told.handed)?;
+        hold("short ones", self.short, told.short)?;
+        hold("bytes of the file", self.bytes, told.bytes)
+    }
+}
+
+fn hold(what: &str, counted: usize, told: usize) -> Outcome<()> {
+    if counted == told {
+        return Ok(());
+    }
+    failed(what, &format!("{counted} were counted, and the tally tells {told}"))
+}
+
+/// The packets file, which has another name until it is whole, and what was written to it.
 struct Output<'a> {
-    path: &'a Path,
+    packets: &'a Path,
+    force: bool,
+    temporary: Temporary,
     file: BufWriter<File>,
-    written: usize,
-    short: Vec<(usize, usize)>,
+    counted: Counted,
 }
 
 impl<'a> Output<'a> {
-    /// Starts the file anew.
-    fn create(path: &'a Path) -> Outcome<Output<'a>> {
-        let file = BufWriter::new(fault(path, File::create(path))?);
-        Ok(Output { path, file, written: 0, short: Vec::new() })
+    fn create(packets: &'a Path, force: bool) -> Outcome<Output<'a>> {
+        let (temporary, file) = of_system(&shown(packets), make_temporary(packets))?;
+        Ok(Output { packets, force, temporary, file: BufWriter::new(file), counted: Counted::default() })
     }
 
-    fn put(&mut self, bytes: &[u8], short: bool) -> Outcome<()> {
-        fault(self.path, self.file.write_all(bytes))?;
-        let number = self.written;
-        self.written += 1;
-        if short {
-            match self.short.last_mut() {
-                Some((_, last)) if *last + 1 == number => *last = number,
-                _ => self.short.push((number, number)),
-            }
-        }
+    fn put(&mut self, bytes: &[u8], of_file: usize, whole: usize) -> Outcome<()> {
+        of_system(&shown(self.packets), self.file.write_all(bytes))?;
+        self.counted.add(of_file, whole);
         Ok(())
     }
 
     fn put_packets<'p>(&mut self, packets: impl Iterator<Item = (&'p [u8], u8)>, sizes: &mut ReadSizes) -> Outcome<()> {
         for (bytes, count) in packets {
-            // A packet that no block announced would have no size, and would not be called whole.
-            let short = sizes.next().map_or(true, |size| usize::from(count) < size);
-            self.put(bytes, short)?;
+            let more = || Stop::Failed("more packets were handed out than are announced".into());
+            self.put(bytes, count.into(), sizes.next().ok_or_else(more)?)?;
         }
         Ok(())
     }
 
-    fn report(mut self, unit: &'static str, cut: usize, owed: usize) -> Outcome<Report> {
-        fault(self.path, self.file.flush())?;
-        Ok(Report { unit, written: self.written, cut, owed, short: self.short })
+    /// Throws away what was written and counted.
+    fn start_anew(&mut self) -> Outcome<()> {
+        self.counted = Counted::default();
+        let emptied = self.file.seek(SeekFrom::Start(0)).and_then(|_| self.file.get_ref().set_len(0));
+        of_system(&shown(self.packets), emptied)
+    }
+
+    /// A file that was made meanwhile is not overwritten: a link is refused then, as a renaming is not.
+    fn put_in_place(mut self, input: &Input) -> Outcome<Counted> {
+        let name = shown(self.packets);
+        of_system(&name, self.file.flush().and_then(|()| self.file.get_ref().sync_all()))?;
+        look_at_output(self.packets, self.force, input)?;
+        let Temporary(temporary) = &self.temporary;
+        let linked = if self.force { None } else { Some(fs::hard_link(temporary, self.packets)) };
+        match linked {
+            Some(Err(error)) if !error.raw_os_error().map_or(false, |number| NO_LINKS.contains(&number)) => of_system(&name, Err(error))?,
+            Some(Ok(())) => {}
+            _ => of_system(&name, fs::rename(temporary, self.packets))?,
+        }
+        Ok(self.counted)
+    }
+}
+
+/// How a reading has ended.
+struct Ended {
+    unit: &'static str,
+    complete: bool,
+    cut: usize,
+    owed: usize,
+}
+
+/// What the line says.
+struct Report {
+    ended: Ended,
+    counted: Counted,
+}
+
+impl fmt::Display for Report {
+    fn fmt(&self, to: &mut fmt::Formatter<'_>) -> fmt::Result {
+        let Ended { unit, complete, cut, owed } = self.ended;
+        let Counted { handed, short, ranges, .. } = &self.counted;
+        if complete {
+            return write!(to, "complete as announced: {handed} {unit}");
+        }
+        write!(to, "incomplete: {handed} {unit}, {cut} bytes of a cut block, {owed} frames owed, {short} short")?;
+        for (number, (first, last)) in ranges.iter().enumerate() {
+            write!(to, "{} {first}", if number == 0 { ":" } else { "" })?;
+            if first < last {
+                write!(to, "-{last}")?;
+            }
+        }
+        Ok(())
     }
 }
 
 /// A recording that is read in pieces.
-struct Pieces<'a> {
+struct Pieces {
     reader: Reader,
     sizes: ReadSizes,
-    output: Output<'a>,
     room: Packets,
-    /// DS2: all bytes so far, while no frame is announced and so the type is not known.
-    kept: Option<Vec<u8>>,
+    type_known: bool,
 }
 
-impl<'a> Pieces<'a> {
-    fn open(kind: u8, packets: &'a Path) -> Outcome<Pieces<'a>> {
-        let (sizes, kept) = match kind {
-            0 => (ReadSizes::ds2(FilePlace(DS2_START)), Some(Vec::new())),
-            _ => (ReadSizes::dss(FilePlace(BLOCK * usize::from(kind))), None),
+impl Pieces {
+    fn open(kind: u64) -> Outcome<Pieces> {
+        let (sizes, type_known) = match kind {
+            0 => (ReadSizes::ds2(DS2_START), false),
+            _ => (ReadSizes::dss(FilePlace(BLOCK * kind as usize)), true),
         };
-        let reader = Reader::open(u64::from(kind))?;
-        Ok(Pieces { reader, sizes, output: Output::create(packets)?, room: with_room(ROOM), kept })
+        Ok(Pieces { reader: Reader::open(kind)?, sizes, room: room_for(SOME_ROOM)?, type_known })
     }
 
-    /// Takes a piece and writes what it brings. False: the recording is to be read whole.
-    fn take(&mut self, piece: &[u8]) -> Outcome<bool> {
+    /// Takes the input's last piece and writes what it brings. False: the recording is to be read whole.
+    fn take(&mut self, input: &mut Input, output: &mut Output) -> Outcome<bool> {
+        let piece = input.last_piece();
         let packets = loop {
             match self.reader.piece(piece, &mut self.room.bytes, &mut self.room.counts) {
-                Err(Refusal { number: 8, beside }) => self.room = with_room(beside as usize),
-                Err(Refusal { number: 7, .. }) => return Ok(false),
+                Err(Refusal { number: Refusal::ROOM, beside }) => self.room = room_for(beside as usize)?,
+                Err(Refusal { number: Refusal::HOLD, .. }) => return Ok(false),
                 answer => break answer?,
             }
         };
         self.sizes.take_piece(piece);
-        if let Some(kept) = &mut self.kept {
-            kept.extend_from_slice(piece);
-            if packets + self.reader.owed() > 0 {
-                if detect_ds2_format_type(kept, DS2_START) >= 6 {
-                    return Ok(false);
-                }
-                self.kept = None;
+        if !self.type_known && packets + self.reader.owed() > 0 {
+            if !turns_out_sp(input) {
+                return Ok(false);
             }
+            self.type_known = true;
         }
-        self.write(packets)?;
+        self.write(packets, output)?;
         Ok(true)
     }
 
-    fn write(&mut self, packets: usize) -> Outcome<()> {
-        self.output.put_packets(self.room.iter().take(packets), &mut self.sizes)
+    fn write(&mut self, packets: usize, output: &mut Output) -> Outcome<()> {
+        output.put_packets(self.room.iter().take(packets), &mut self.sizes)
     }
 
-    fn end(mut self) -> Outcome<Report> {
-        let (mut cut, mut owed) = (0, 0);
-        match self.reader.strict_end() {
-            Ok(()) => {}
-            Err(Refusal { number, beside }) if number == 13 || number == 14 => {
-                cut = if number == 13 { beside as usize } else { 0 };
-                owed = self.reader.owed();
-                self.drain()?;
-            }
+    /// The strict end says whether the recording is complete, or what is missing.
+    fn end(mut self, input: &mut Input, output: &mut Output) -> Outcome<Ended> {
+        let (complete, cut) = match self.reader.strict_end() {
+            Ok(()) => (true, 0),
+            Err(Refusal { number: Refusal::CUT_BLOCK, beside }) => (false, beside as usize),
+            Err(Refusal { number: Refusal::OWING, .. }) => (false, 0),
             Err(refusal) => return Err(refusal.into()),
+        };
+        let owed = self.reader.owed();
+        if complete {
+            hold("short ones", output.counted.short, 0)?;
+        } else {
+            self.drain(output)?;
+            tally_again(input, output)?;
         }
-        self.output.report("packets", cut, owed)
+        Ok(Ended { unit: "packets", complete, cut, owed })
     }
 
-    fn drain(&mut self) -> Outcome<()> {
+    fn drain(&mut self, output: &mut Output) -> Outcome<()> {
         loop {
             let packets = self.reader.lenient_end(&mut self.room.bytes, &mut self.room.counts)?;
-            self.write(packets)?;
+            self.write(packets, output)?;
             if self.reader.owed() == 0 {
                 return Ok(());
             }
@@ -188,133 +407,172 @@ impl<'a> Pieces<'a> {
     }
 }
 
-fn with_room(packets: usize) -> Packets {
-    Packets { bytes: vec![0; PACKET * packets], counts: vec![0; packets] }
+/// A reader of DS2 looks at no type. Once a frame is announced the tally of the bytes so far tells it.
+fn turns_out_sp(input: &mut Input) -> bool {
+    let sp = tally(&input.held).map_or(false, |told| told.kind == AudioFormat::Ds2Sp);
+    if sp {
+        // a piece may still be refused by 7, and then all bytes are asked for again
+        input.keeps_all = input.origin.is_none();
+    }
+    sp
 }
 
-/// A reader's kind by a recording's first bytes; none if it is not one that a reader takes.
-fn kind_of(first: &[u8]) -> Option<u8> {
-    match (first.first()?, first.get(1..4)?) {
-        (&kind, b"dss") if kind == 2 || kind == 3 => Some(kind),
-        (1 | 3, b"ds2") => Some(0),
-        _ => None,
+/// An incomplete recording that was read in pieces is tallied whole too, if its bytes are held or can be gone back for.
+fn tally_again(input: &mut Input, output: &Output) -> Outcome<()> {
+    if !input.is_at_hand() {
+        return Ok(());
+    }
+    match tally(input.all()?) {
+        Ok(told) => output.counted.hold_to(&told, "packets"),
+        Err(Refusal { number, .. }) => Err(Stop::Failed(format!("the tally refuses by {number} what a reader has taken"))),
     }
 }
 
-/// Appends the next piece: as many bytes as asked for, or what is left.
-fn read_piece(from: &mut impl Read, size: usize, path: &Path, to: &mut Vec<u8>) -> Outcome<usize> {
-    fault(path, from.take(size as u64).read_to_end(to))
-}
-
-/// The recording in pieces. None: it is to be read whole, and what was written is to be thrown away.
-fn in_pieces(recording: &Path, packets: &Path, size: usize) -> Outcome<Option<Report>> {
-    let mut from = BufReader::new(fault(recording, File::open(recording))?);
-    let mut piece = Vec::new();
-    while piece.len() < 4 && read_piece(&mut from, size, recording, &mut piece)? > 0 {}
-    let mut pieces = match kind_of(&piece) {
-        Some(kind) => Pieces::open(kind, packets)?,
+/// The recording in pieces. None: it is to be read whole.
+fn in_pieces(input: &mut Input, output: &mut Output, size: usize) -> Outcome<Option<Ended>> {
+    while input.next_piece(size)? && input.held.len() < 4 {}
+    let mut pieces = match Reader::kind_of(&input.held) {
+        Some(kind) => Pieces::open(kind)?,
         None => return Ok(None),
     };
-    while !piece.is_empty() {
-        if !pieces.take(&piece)? {
-            return Ok(None);
+    // a reader takes every DSS recording to its end, so that none of its bytes are asked for again
+    input.keeps_all = !pieces.type_known;
+    input.piece = 0;
+    while pieces.take(input, output)? {
+        if !input.next_piece(size)? {
+            return pieces.end(input, output).map(Some);
         }
-        piece.clear();
-        read_piece(&mut from, size, recording, &mut piece)?;
     }
-    pieces.end().map(Some)
+    Ok(None)
 }
 
-/// The recording read whole. A byte over the limit is enough to be refused.
-fn whole(recording: &Path, packets: &Path) -> Outcome<Report> {
-    let mut file = Vec::new();
-    read_piece(&mut fault(recording, File::open(recording))?, LIMIT + 1, recording, &mut file)?;
-    let output = Output::create(packets)?;
-    let told = tally(&file)?;
-    let cut = (file.len() - told.start.0) % BLOCK;
-    match told.kind {
-        AudioFormat::Ds2Sp => whole_sp(&file, &ds2::demux_ds2_sp_counted(&file)?, ReadSizes::ds2(told.start), cut, output),
-        AudioFormat::Ds2Qp => whole_qp(&file, cut, output),
-        AudioFormat::Ds2Qp7 => whole_qp7(&file, cut, output),
-        // A reader takes every DSS recording, and gives no 7.
-        _ => Err(Stop::Fault(format!("{}: it should have been read in pieces", recording.display()))),
-    }
+/// The recording read whole.
+fn whole(input: &mut Input, output: &mut Output) -> Outcome<Ended> {
+    output.start_anew()?;
+    let file = input.all()?;
+    let told = tally(file)?;
+    let unit = match told.kind {
+        AudioFormat::Ds2Sp => whole_sp(file, &told, output)?,
+        AudioFormat::Ds2Qp => whole_qp(file, output)?,
+        AudioFormat::Ds2Qp7 => whole_qp7(file, output)?,
+        // a reader takes every DSS recording, and gives no 7
+        _ => return failed(&input.name, "it should have been read in pieces"),
+    };
+    output.counted.hold_to(&told, unit)?;
+    // SP packets that are owed are handed out all the same, and are short
+    let owed = if told.kind == AudioFormat::Ds2Sp { told.short } else { told.announced - told.handed };
+    Ok(Ended { unit, complete: told.complete_as_announced(file.len()), cut: told.cut(file.len()), owed })
 }
 
-fn whole_sp(file: &[u8], packets: &Packets, mut sizes: ReadSizes, cut: usize, mut output: Output) -> Outcome<Report> {
+fn whole_sp(file: &[u8], told: &Tally, output: &mut Output) -> Outcome<&'static str> {
+    let mut room = room_for(told.handed)?;
+    let packets = ds2::demux_ds2_sp_into(file, &mut room.bytes, &mut room.counts)?;
+    let mut sizes = ReadSizes::ds2(told.start);
     sizes.take_piece(file);
-    output.put_packets(packets.iter(), &mut sizes)?;
-    let owed = output.short.iter().map(|(first, last)| last - first + 1).sum();
-    output.report("packets", cut, owed)
+    output.put_packets(room.iter().take(packets), &mut sizes)?;
+    Ok("packets")
 }
 
-fn whole_qp(file: &[u8], cut: usize, mut output: Output) -> Outcome<Report> {
-    let table = ds2::demux_ds2_qp(file)?;
+fn whole_qp(file: &[u8], output: &mut Output) -> Outcome<&'static str> {
     let mut scratch = [0; FRAME];
-    for (place, size) in table.rows.iter().flat_map(|&row| frames::frames(row)) {
-        output.put(frames::fetch(file, place, size, &mut scratch)?, size < FRAME)?;
+    for (place, size) in ds2::demux_ds2_qp(file)?.rows.iter().flat_map(|&row| frames::frames(row)) {
+        output.put(frames::fetch(file, place, size, &mut scratch)?, size, FRAME)?;
     }
-    let owed = table.announced - output.written;
-    output.report("frames", cut, owed)
+    Ok("frames")
 }
 
-fn whole_qp7(file: &[u8], cut: usize, mut output: Output) -> Outcome<Report> {
+fn whole_qp7(file: &[u8], output: &mut Output) -> Outcome<&'static str> {
     let mut scratch = [0; FRAME];
     for place in ds2::demux_ds2_qp7(file)?.records {
-        output.put(frames::record(file, place, &mut scratch)?, false)?;
+        let record = frames::record(file, place, &mut scratch)?;
+        output.put(record, record.len(), record.len())?;
     }
-    output.report("records", cut, 0)
+    Ok("records")
+}
+
+/// What the command line asks for.
+enum Asked {
+    Help,
+    Run { recording: OsString, packets: PathBuf, size: usize, force: bool },
+}
+
+fn misused<T>(what: &str) -> Outcome<T> {
+    Err(Stop::Misused(format!("{what}; --help tells more")))
 }
 
 /// The piece's size: digits alone, at least 1. More than the limit and a byte is never of use, so it is not asked for.
-fn piece_size(argument: Option<&OsString>) -> Option<usize> {
-    let digits = match argument {
-        None => return Some(4096),
-        Some(digits) => digits.to_str()?,
-    };
+fn piece_size(digits: &OsStr) -> Option<usize> {
+    let digits = digits.to_str()?;
     let plain = !digits.is_empty() && digits.bytes().all(|byte| byte.is_ascii_digit());
     let size = digits.parse().unwrap_or(usize::MAX);
     (plain && size > 0).then_some(size.min(LIMIT + 1))
 }
 
-/// Whether the two are one file, which writing the packets would destroy.
-fn same_file(one: &Path, other: &Path) -> bool {
-    let known = |path: &Path| std::fs::metadata(path).map(|file| (file.dev(), file.ino())).ok();
-    known(one).map_or(false, |file| known(other) == Some(file))
-}
-
-fn run(arguments: &[OsString]) -> Outcome<Report> {
-    let (recording, packets, size) = match (arguments, piece_size(arguments.get(2))) {
-        ([recording, packets] | [recording, packets, _], Some(size)) => (Path::new(recording), Path::new(packets), size),
-        _ => return Err(Stop::Fault("usage: intake RECORDING PACKETS [PIECE]".into())),
+fn command_line(arguments: impl Iterator<Item = OsString>) -> Outcome<Asked> {
+    let (mut names, mut force, mut options) = (Vec::new(), false, true);
+    for argument in arguments {
+        match argument.as_bytes() {
+            b"--" if options => options = false,
+            b"--help" if options => return Ok(Asked::Help),
+            b"--force" if options => force = true,
+            [b'-', _, ..] if options => return misused(&format!("there is no option {}", shown(Path::new(&argument)))),
+            _ => names.push(argument),
+        }
+    }
+    if names.len() < 2 || names.len() > 3 {
+        return misused("it takes RECORDING PACKETS [PIECE]");
+    }
+    let size = match names.get(2) {
+        None => DEFAULT_PIECE,
+        Some(digits) => match piece_size(digits) {
+            Some(size) => size,
+            None => return misused(&format!("PIECE is a number of bytes from 1 on, and not {}", shown(Path::new(digits)))),
+        },
     };
-    if same_file(recording, packets) {
-        return Err(Stop::Fault(format!("{}: this is the recording itself", packets.display())));
-    }
-    match in_pieces(recording, packets, size)? {
-        Some(report) => Ok(report),
-        None => whole(recording, packets),
-    }
+    let packets = PathBuf::from(names.swap_remove(1));
+    Ok(Asked::Run { recording: names.swap_remove(0), packets, size, force })
 }
 
-/// Prints the line. If that cannot be done the answer is lost, which is no success.
-fn say(line: &dyn fmt::Display, status: u8) -> ExitCode {
-    match writeln!(io::stdout(), "{line}") {
+fn run(recording: &OsStr, packets: &Path, size: usize, force: bool) -> Outcome<Report> {
+    let mut input = Input::open(recording)?;
+    look_at_output(packets, force, &input)?;
+    let mut output = Output::create(packets, force)?;
+    let ended = match in_pieces(&mut input, &mut output, size)? {
+        Some(ended) => ended,
+        None => whole(&mut input, &mut output)?,
+    };
+    Ok(Report { ended, counted: output.put_in_place(&input)? })
+}
+
+/// Prints what there is to say. If that cannot be done the answer is lost, which is no success.
+fn say(what: &dyn fmt::Display, status: u8) -> ExitCode {
+    let mut to = io::stdout();
+    match write!(to, "{what}").and_then(|()| to.flush()) {
         Ok(()) => ExitCode::from(status),
-        Err(error) => complain(&format!("standard output: {error}")),
+        Err(error) => complain(&format!("standard output: {}", cause(&error)), status::FAILED),
     }
 }
 
-fn complain(what: &str) -> ExitCode {
-    eprintln!("{what}");
-    ExitCode::from(2)
+fn complain(what: &str, status: u8) -> ExitCode {
+    // there is nowhere to say that this cannot be written
+    let _ = writeln!(io::stderr(), "intake: {what}");
+    ExitCode::from(status)
 }
 
 fn main() -> ExitCode {
-    let arguments: Vec<OsString> = std::env::args_os().skip(1).collect();
-    match run(&arguments) {
-        Ok(report) => say(&report, u8::from(!report.complete())),
-        Err(Stop::Refused(Refusal { number, beside })) => say(&format_args!("refused {number} {beside}"), 2),
-        Err(Stop::Fault(what)) => complain(&what),
+    let told = match command_line(std::env::args_os().skip(1)) {
+        Ok(Asked::Help) => return say(&HELP, status::COMPLETE),
+        Ok(Asked::Run { recording, packets, size, force }) => run(&recording, &packets, size, force),
+        Err(stop) => Err(stop),
+    };
+    match told {
+        Ok(report) if report.ended.complete => say(&format_args!("{report}\n"), status::COMPLETE),
+        Ok(report) => say(&format_args!("{report}\n"), status::INCOMPLETE),
+        Err(Stop::Refused(refusal)) => {
+            let Refusal { number, beside } = refusal;
+            say(&format_args!("refused {number} {beside}: {refusal}\n"), status::REFUSED)
+        }
+        Err(Stop::Failed(what)) => complain(&what, status::FAILED),
+        Err(Stop::Misused(what)) => complain(&what, status::WRONG_USE),
     }
 }
