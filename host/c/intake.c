@@ -32,8 +32,9 @@ static const char help[] =
     "  incomplete: 13 packets, 0 bytes of a cut block, 1 frames owed, 1 short: 12           1\n"
     "  refused 3 1536: the recording ends inside its header, which has 1536 bytes           3\n"
     "Complete as announced: all that the recording's blocks announce is there. A block that was lost or zeroed announces nothing, and\n"
-    "nobody can tell. Owed are frames that are announced and are not there in full. Short are packets and frames of which bytes are\n"
-    "missing, in a packet with zeros in their place; their numbers follow, counted from 0. A refused recording's packets are not written.\n"
+    "nobody can tell. Owed are frames that are announced and had not come when the recording ended. Short are packets and frames of\n"
+    "which bytes are missing, in a packet with zeros in their place; their numbers follow, counted from 0. Of a refused recording no\n"
+    "packets are written.\n"
     "\n"
     "The other exit statuses, with a line on standard error:\n"
     "  4   input or output failed; but for a line that could not be printed, PACKETS is as it was\n"
@@ -323,7 +324,7 @@ static void open_output(struct intake *it)
         fail_at(it->packets);
 }
 
-/* Throws away what was written and counted. No packet was short so far: until its end a reader hands out complete ones. */
+/* Throws away what was written and counted. */
 static void start_anew(struct intake *it)
 {
     if (fflush(it->out) != 0 || fseeko(it->out, 0, SEEK_SET) != 0 || ftruncate(fileno(it->out), 0) != 0)
@@ -332,6 +333,8 @@ static void start_anew(struct intake *it)
     it->sizes = (struct sizes){0};
     it->handed = 0;
     it->bytes = 0;
+    it->short_count = 0;
+    it->shorts.len = 0;
 }
 
 /* A file that was made meanwhile is not overwritten: a link is refused then, as a renaming is not. */
@@ -392,7 +395,7 @@ static enum outcome refused(struct intake *it, uint64_t refusal, uint64_t beside
 static void hold(const char *what, uint64_t counted, uint64_t told)
 {
     if (counted != told)
-        fail("%s: %llu were counted, and the tally tells %llu", what, (unsigned long long)counted, (unsigned long long)told);
+        fail("%s: %llu were counted here, and the archive tells %llu", what, (unsigned long long)counted, (unsigned long long)told);
 }
 
 static void hold_to_tally(const struct intake *it, const klov_tallied *t)

@@ -639,9 +639,14 @@ def failing_outputs(trial, folder):
                     preexec_fn=small_files, restore_signals=False)
     write(trial.packets, None)
     with open("/dev/full", "wb") as full:
-        line, parts, _ = expected(data)
+        parts = expected(data)[1]
         trial.run("no room for the line", [trial.recording, trial.packets], ("", parts, FAILED), "standard output: No space left on device", stdout=full)
         trial.run("no room for the help", ["--help"], ("", parts, FAILED), "standard output: No space left on device", stdout=full)
+    write(trial.packets, None)
+    read_end, write_end = os.pipe()
+    os.close(read_end)
+    trial.run("nobody reads the line", [trial.recording, trial.packets], ("", parts, FAILED), "standard output: Broken pipe", stdout=write_end)
+    os.close(write_end)
 
 
 def made_meanwhile(trial):

@@ -43,8 +43,9 @@ The line, and the exit status:
   incomplete: 13 packets, 0 bytes of a cut block, 1 frames owed, 1 short: 12           1
   refused 3 1536: the recording ends inside its header, which has 1536 bytes           3
 Complete as announced: all that the recording's blocks announce is there. A block that was lost or zeroed announces nothing, and
-nobody can tell. Owed are frames that are announced and are not there in full. Short are packets and frames of which bytes are
-missing, in a packet with zeros in their place; their numbers follow, counted from 0. A refused recording's packets are not written.
+nobody can tell. Owed are frames that are announced and had not come when the recording ended. Short are packets and frames of
+which bytes are missing, in a packet with zeros in their place; their numbers follow, counted from 0. Of a refused recording no
+packets are written.
 
 The other exit statuses, with a line on standard error:
   4   input or output failed; but for a line that could not be printed, PACKETS is as it was
@@ -249,7 +250,7 @@ fn hold(what: &str, counted: usize, told: usize) -> Outcome<()> {
     if counted == told {
         return Ok(());
     }
-    failed(what, &format!("{counted} were counted, and the tally tells {told}"))
+    failed(what, &format!("{counted} were counted here, and the archive tells {told}"))
 }
 
 /// The packets file, which has another name until it is whole, and what was written to it.
