@@ -474,10 +474,16 @@ fn whole_sp(file: &[u8], told: &Tally, output: &mut Output) -> Outcome<&'static 
     Ok("packets")
 }
 
+/// A frame that a table has a place for is there.
+fn refused_frame(refusal: Refusal) -> Stop {
+    Stop::Failed(format!("a frame was refused by {}", refusal.number))
+}
+
 fn whole_qp(file: &[u8], output: &mut Output) -> Outcome<&'static str> {
     let mut scratch = [0; FRAME];
     for (place, size) in ds2::demux_ds2_qp(file)?.rows.iter().flat_map(|&row| frames::frames(row)) {
-        output.put(frames::fetch(file, place, size, &mut scratch)?, size, FRAME)?;
+        let frame = frames::fetch(file, place, size, &mut scratch).map_err(refused_frame)?;
+        output.put(frame, size, FRAME)?;
     }
     Ok("frames")
 }
@@ -485,7 +491,7 @@ fn whole_qp(file: &[u8], output: &mut Output) -> Outcome<&'static str> {
 fn whole_qp7(file: &[u8], output: &mut Output) -> Outcome<&'static str> {
     let mut scratch = [0; FRAME];
     for place in ds2::demux_ds2_qp7(file)?.records {
-        let record = frames::record(file, place, &mut scratch)?;
+        let record = frames::record(file, place, &mut scratch).map_err(refused_frame)?;
         output.put(record, record.len(), record.len())?;
     }
     Ok("records")
