@@ -2,7 +2,7 @@
 // announced. It rests on the crate's safe calls, whose rule for that word it follows. SP recordings are read in pieces by a reader; what
 // a reader does not take is read whole. What it prints and its exit statuses are in `HELP`.
 use klovdrun::demux::{ds2, AudioFormat};
-use klovdrun::{frames, tally, FilePlace, Packets, ReadSizes, Reader, Refusal, Tally, BLOCK, DS2_START, FRAME, LIMIT, PACKET};
+use klovdrun::{dss_start, frames, tally, Packets, ReadSizes, Reader, Refusal, Tally, DS2_START, FRAME, LIMIT, PACKET};
 use std::ffi::{OsStr, OsString};
 use std::fmt;
 use std::fs::{self, File, Metadata, OpenOptions};
@@ -348,8 +348,8 @@ struct Pieces {
 impl Pieces {
     fn open(kind: u64) -> Outcome<Pieces> {
         let (sizes, type_known) = match kind {
-            0 => (ReadSizes::ds2(DS2_START), false),
-            _ => (ReadSizes::dss(FilePlace(BLOCK * kind as usize)), true),
+            Reader::DS2 => (ReadSizes::ds2(DS2_START), false),
+            _ => (ReadSizes::dss(dss_start(kind as u8)), true),
         };
         Ok(Pieces { reader: Reader::open(kind)?, sizes, room: room_for(SOME_ROOM)?, type_known })
     }

@@ -53,6 +53,10 @@ pub const BLOCK: usize = 512;
 pub const PAYLOAD: usize = 506;
 /// Where a DS2 recording's audio starts if its first byte is 1 or 3.
 pub const DS2_START: FilePlace = FilePlace(1536);
+/// Where a DSS recording's audio starts, by its first byte, 2 or 3.
+pub const fn dss_start(first: u8) -> FilePlace {
+    FilePlace(BLOCK * first as usize)
+}
 /// Words of a QP segment's entry in a table.
 pub const QP_WORDS: usize = 4;
 /// Words of a QP7 segment's entry in a table.

@@ -19,17 +19,20 @@ pub struct Reader {
 }
 
 impl Reader {
+    /// The kind of a reader of DS2.
+    pub const DS2: u64 = 0;
+
     /// The kind of reader that takes a recording which begins with these bytes, of which four are enough. None: it is read whole.
     #[must_use]
     pub fn kind_of(first: &[u8]) -> Option<u64> {
         match (*first.first()?, first.get(1..4)?) {
             (kind @ (2 | 3), b"dss") => Some(u64::from(kind)),
-            (1 | 3, b"ds2") => Some(0),
+            (1 | 3, b"ds2") => Some(Reader::DS2),
             _ => None,
         }
     }
 
-    /// A fresh reader: kind 0 for DS2 (first byte 1 or 3), 2 or 3 for DSS with that first byte. Refusal 10.
+    /// A fresh reader: kind 0 ([`Reader::DS2`], first byte 1 or 3), 2 or 3 for DSS with that first byte. Refusal 10.
     pub fn open(kind: u64) -> Result<Reader> {
         raw::open(kind).map(|state| Reader { state, owed: 0 })
     }

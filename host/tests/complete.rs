@@ -268,3 +268,40 @@ fn readers_of_another_kind_say_nothing() {
     }
     assert_eq!(in_pieces(0, &[&qp]), Told::NotSp);
 }
+
+/// Block headers as a recorder writes them over so many blocks, unswapped first, each announcing the reads that begin in it and end in the
+/// recording.
+fn without_a_gap(blocks: usize) -> Vec<[u8; 6]> {
+    let (mut place, mut swapped) = (0, false);
+    let mut heads = Vec::new();
+    for block in 0..blocks {
+        let (first, flag, mut count) = (place - 506 * block, swapped, 0);
+        while place < 506 * (block + 1) && place + if swapped { 40 } else { 42 } <= 506 * blocks {
+            place += if swapped { 40 } else { 42 };
+            swapped = !swapped;
+            count += 1;
+        }
+        let before = if flag { 4 } else { 6 };
+        heads.push(header(if flag { 0x8F } else { 0x0F }, ((first + before) / 2) as u8, count, 0));
+    }
+    heads
+}
+
+/// The figures of docs/FORMAT.md, last section.
+#[test]
+fn what_nobody_announced_is_not_missed() {
+    let packets = |file: &[u8]| tally(file).map(|told| (told.handed, told.complete_as_announced(file.len())));
+    for magic in [b"\x01ds2", b"\x03dss"] {
+        let file = files::file(magic, 1536, &without_a_gap(20), |place| place as u8);
+        let block = 1536 + 512 * 7..1536 + 512 * 8;
+        assert_eq!(packets(&file), Ok((246, true)));
+        let mut zeroed = file.clone();
+        zeroed[block.clone()].fill(0);
+        assert_eq!(packets(&zeroed), Ok((234, true)));
+        let mut lost = file.clone();
+        lost.drain(block.clone());
+        assert_eq!(packets(&lost), Ok((234, true)));
+        let twice = [&file[..block.end], &file[block.start..]].concat();
+        assert_eq!(packets(&twice), Ok((258, true)));
+    }
+}

@@ -4,7 +4,7 @@ use crate::error::{Refusal, Result};
 use crate::frames;
 use crate::packets::{gathered, Packets};
 use crate::places::{payload_stream, StreamPlace};
-use crate::reader::Fed;
+use crate::reader::{Fed, Reader};
 use crate::{raw, FRAME, LIMIT, QP7_WORDS, QP_WORDS};
 
 /// A QP segment with its bytes.
@@ -235,7 +235,7 @@ impl Ds2SpStreamDemuxer {
     #[allow(clippy::new_without_default)] // dss-codec has none
     #[must_use]
     pub fn new() -> Self {
-        Self { fed: Fed::open(0).expect("kind 0 opens") }
+        Self { fed: Fed::open(Reader::DS2).expect("kind 0 opens") }
     }
 
     /// Takes a piece; the packets that it completes. Refusals 6, 2, 7. After a 7 the recording is to be read whole, which this does not do
