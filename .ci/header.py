@@ -174,7 +174,7 @@ def check_constant(source, pattern, value):
 
 def check_rust(source, root):
     check_constant(source, r"const READER_SIZE: usize = (\w+);", layout("Reader")[0])
-    check_constant(root, r"pub const VERSION: u64 = (\w+);", version())
+    check_constant(source, r"pub\(crate\) const VERSION: u64 = (\w+);", version())
     check_constant(root, r"pub const DS2_START: FilePlace = FilePlace\((\w+)\);", ds2_start())
     for name in IN_RUST:
         check_constant(root, rf"pub const {name}: usize = (\w+);", constant(name))

@@ -1,4 +1,4 @@
-/* klovdrun: a demuxer for dictation recordings, DSS and DS2, over the archive libklovdrun.a (x86-64, System V).
+/* klovdrun: a demuxer for dictation recordings, DSS and DS2, over the archive libklovdrun.a (x86-64, System V), for C99 and C++.
  * docs/FORMAT.md describes the recordings; host/c/intake.c is a whole program over this header.
  *
  * LENT MEMORY. A slice is a pointer and a length in elements. No call keeps a pointer, allocates, or touches anything but what is lent to it;
@@ -43,8 +43,9 @@
  * open refused, all of which answer 0; a reader opened for another kind, or one of kind 0 that is fed a `\x07ds2` recording: `klov_open` and
  * the reader look at no magic and no type.
  *
- * klov_reader_kind is the rule's first sentence, klov_complete_as_announced the second. For the type keep a DS2 recording's bytes until
- * klov_piece has told of a frame (first + second above 0), and ask klov_tally of them: it is read as SP if the kind is KLOV_DS2_SP.
+ * klov_reader_kind tells the kind that the rule in pieces asks for, klov_complete_as_announced is the rule for whole files. For the type keep
+ * a DS2 recording's bytes until klov_piece has told of a frame (first + second above 0), and ask klov_tally of them: it is read as SP if the
+ * tally answers and its kind is KLOV_DS2_SP.
  * More than was announced nobody can tell: a block that was zeroed, lost or written twice announces otherwise, and the format has no checksum.
  *
  * REFUSALS, each with its number, its cause and the number beside it:

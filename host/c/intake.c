@@ -18,8 +18,9 @@
 /* Exit statuses. 2 is kept for a recording that is suspect, and never given. */
 enum status { COMPLETE = 0, INCOMPLETE = 1, REFUSED = 3, FAILED = 4, WRONG_USE = 64 };
 
-/* PART: how much is read at a time where the recording is read whole. SOME_ROOM: packets to begin with. TRIES: for a temporary name. */
-enum { DEFAULT_PIECE = 4096, PART = 1 << 20, SOME_ROOM = 64, TRIES = 100 };
+/* PART: how much is read at a time where the recording is read whole. SOME_ROOM: packets to begin with. TRIES, NAME_ROOM: for a temporary
+ * name. */
+enum { DEFAULT_PIECE = 4096, PART = 1 << 20, SOME_ROOM = 64, TRIES = 100, NAME_ROOM = 64 };
 
 static const char help[] =
     "usage: intake [--force] [--] RECORDING PACKETS [PIECE]\n"
@@ -41,8 +42,9 @@ static const char help[] =
     "  64  wrong use\n"
     "Status 2 is not given.\n"
     "\n"
-    "--force replaces a file PACKETS that is there already, which is else left as it is. Neither the recording itself nor anything\n"
-    "that is not a file is ever replaced. A run that is killed may leave its temporary file .intake-PID beside PACKETS.\n";
+    "--force replaces a file PACKETS that is there already, which is else left as it is; of a link the link itself, and not what it\n"
+    "leads to. Neither a recording, this one or another, nor what is not a file is ever replaced, nor a link to one. A run that is\n"
+    "killed may leave its temporary file .intake-PID beside PACKETS.\n";
 
 /* Bytes that grow. `room` is never 0 after the first reserve, so `at` is then a pointer that may be lent. */
 struct bytes {
@@ -279,6 +281,18 @@ static unsigned next_size(struct sizes *s)
 
 /* The packets file, which has another name until it is whole. */
 
+/* Whether a file begins as recordings do. Of a pipe it cannot be told whether it brings this one. */
+static bool is_recording(const char *name)
+{
+    uint8_t first[4] = {0};
+    FILE *file = fopen(name, "rb");
+    if (file == NULL)
+        return false;
+    size_t got = fread(first, 1, sizeof first, file);
+    fclose(file);
+    return klov_tally(first, got).refusal != KLOV_REFUSED_MAGIC;
+}
+
 /* Fails if PACKETS must not be written: asked before the recording is read, and again before the file is put in place. */
 static void look_at_output(const struct intake *it)
 {
@@ -290,28 +304,41 @@ static void look_at_output(const struct intake *it)
     }
     if (fstat(fileno(it->in.from), &recording) != 0)
         fail_at(it->in.name);
-    if (stat(it->packets, &led_to) == 0 && led_to.st_dev == recording.st_dev && led_to.st_ino == recording.st_ino)
+    bool leads = stat(it->packets, &led_to) == 0; /* else it is a link to nothing */
+    if (leads && led_to.st_dev == recording.st_dev && led_to.st_ino == recording.st_ino)
         fail("%s: it is the recording itself", it->packets);
-    if (!S_ISREG(packets.st_mode) && !S_ISLNK(packets.st_mode))
+    if (leads && !S_ISREG(led_to.st_mode))
         fail("%s: it is not a file", it->packets);
+    if (leads && is_recording(it->packets))
+        fail("%s: it is a recording", it->packets);
     if (!it->force)
         fail("%s: it is there already; --force replaces it", it->packets);
+}
+
+/* The folder of PACKETS with its slash, and room for a name behind it. */
+static char *folder_of(const char *packets, size_t *len)
+{
+    const char *slash = strrchr(packets, '/');
+    const char *folder = slash == NULL ? "./" : packets;
+    *len = slash == NULL ? 2 : (size_t)(slash - packets) + 1;
+    char *made = malloc(*len + NAME_ROOM);
+    if (made == NULL)
+        fail("out of memory");
+    memcpy(made, folder, *len);
+    made[*len] = '\0';
+    return made;
 }
 
 /* Makes a file of a name that is not there yet, in the folder of PACKETS. */
 static void open_output(struct intake *it)
 {
-    const char *slash = strrchr(it->packets, '/');
-    int folder = slash == NULL ? 0 : (int)(slash - it->packets) + 1;
-    size_t room = (size_t)folder + 64;
-    char *name = malloc(room);
-    if (name == NULL)
-        fail("out of memory");
+    size_t folder;
+    char *name = folder_of(it->packets, &folder);
     int file = -1;
     for (int n = 0; n < TRIES && file < 0; n++) {
-        int len = snprintf(name, room, "%.*s.intake-%ld", folder, it->packets, (long)getpid());
+        int len = snprintf(name + folder, NAME_ROOM, ".intake-%ld", (long)getpid());
         if (n > 0)
-            snprintf(name + len, room - (size_t)len, "-%d", n);
+            snprintf(name + folder + len, NAME_ROOM - (size_t)len, "-%d", n);
         file = open(name, O_WRONLY | O_CREAT | O_EXCL, 0666);
         if (file < 0 && errno != EEXIST)
             break;
@@ -337,23 +364,47 @@ static void start_anew(struct intake *it)
     it->shorts.len = 0;
 }
 
-/* A file that was made meanwhile is not overwritten: a link is refused then, as a renaming is not. */
-static void put_in_place(struct intake *it)
+static void rename_output(const struct intake *it)
 {
-    if (fflush(it->out) != 0 || fsync(fileno(it->out)) != 0 || fclose(it->out) != 0)
-        fail_at(it->packets);
-    look_at_output(it);
-    if (!it->force && link(temporary, it->packets) == 0) {
-        remove_temporary();
-        return;
-    }
-    /* these say that the file system has no links */
-    if (!it->force && errno != EPERM && errno != EOPNOTSUPP && errno != ENOSYS)
-        fail_at(it->packets);
     if (rename(temporary, it->packets) != 0)
         fail_at(it->packets);
     free(temporary);
     temporary = NULL;
+}
+
+/* A file that was made meanwhile is not overwritten: a link is refused then, as a renaming is not. Where the file system has no links the
+ * name is taken first, by an empty file. */
+static void link_output(const struct intake *it)
+{
+    if (link(temporary, it->packets) == 0) {
+        remove_temporary();
+        return;
+    }
+    int taken = errno == EEXIST ? -1 : open(it->packets, O_WRONLY | O_CREAT | O_EXCL, 0666);
+    if (taken < 0)
+        fail_at(it->packets);
+    close(taken);
+    rename_output(it);
+}
+
+/* Puts the file in place, and its name on the disk too: a folder that cannot be opened for that is left to the system. */
+static void put_in_place(struct intake *it)
+{
+    size_t len;
+    if (fflush(it->out) != 0 || fsync(fileno(it->out)) != 0 || fclose(it->out) != 0)
+        fail_at(it->packets);
+    look_at_output(it);
+    if (it->force)
+        rename_output(it);
+    else
+        link_output(it);
+    char *name = folder_of(it->packets, &len);
+    int folder = open(name, O_RDONLY);
+    if (folder >= 0) {
+        (void)fsync(folder);
+        close(folder);
+    }
+    free(name);
 }
 
 static void note_short(struct intake *it)
@@ -724,9 +775,18 @@ static void command_line(struct intake *it, int argc, char **argv)
         misused("PIECE is a number of bytes from 1 on, and not ", names[2]);
 }
 
+/* As Rust's library has it: a standard stream that is closed brings nothing and takes anything, and no file gets its number. */
+static void open_streams(void)
+{
+    for (int stream = 0; stream <= 2; stream++)
+        if (fcntl(stream, F_GETFD) < 0 && open("/dev/null", O_RDWR) < 0)
+            exit(FAILED);
+}
+
 int main(int argc, char **argv)
 {
     struct intake it = {.unit = "packets"};
+    open_streams();
     signal(SIGPIPE, SIG_IGN); /* so that a line nobody reads is a failure like any other */
     command_line(&it, argc, argv);
     if (klov_version() != KLOV_VERSION)

@@ -339,6 +339,7 @@ def qp_named(m):
         return [m.block(count, byte1, kind=kind) for byte1, count in heads]
     yield "qp complete", m.file(b"\x01ds2", 1536, *blocks((3, 9), (3, 9), (3, 9)))
     yield "qp short and missing", m.file(b"\x01ds2", 1536, *blocks((3, 12)))
+    yield "qp missing, none short", m.file(b"\x01ds2", 1536, *blocks((4, 10)))
     yield "qp one segment over blocks", m.file(b"\x03ds2", 1536, *blocks((3, 10), (30, 9), (29, 8)))
     yield "qp two segments", m.file(b"\x03ds2", 1536, *blocks((3, 9), (3, 9), (200, 3)))
     yield "qp short inside", m.file(b"\x03ds2", 1536, *blocks((3, 9), (100, 255), (5, 0), (255, 1)))
@@ -573,11 +574,15 @@ def wrong_uses(trial, folder):
 
 def not_replaced(trial, folder):
     """What is there stays as it was, but for a file with --force."""
-    other = Maker(22).file(b"\x02dss", 1024, tail=b"another recording")
     write(trial.recording, EMPTY)
-    for left in (LEFT, other, b""):
+    for left in (LEFT, b""):
         write(trial.packets, left)
         trial.fails("there already", [trial.recording, trial.packets], f"{trial.packets}: it is there already; --force replaces it", packets=left)
+    for other in (Maker(22).file(b"\x02dss", 1024, tail=b"another recording"), EMPTY, b"\x07ds2"):
+        write(trial.packets, other)
+        for options in ([], ["--force"]):
+            trial.fails("another recording", options + [trial.recording, trial.packets], f"{trial.packets}: it is a recording", packets=other)
+            trial.fails("this one, through a pipe", options + ["-", trial.packets], f"{trial.packets}: it is a recording", packets=other, input=other)
     os.remove(trial.packets)
     for name, make in (("by name", None), ("by a symlink", os.symlink), ("by a hard link", os.link)):
         packets = os.path.join(trial.folder, "itself") if make else trial.recording
@@ -608,9 +613,9 @@ def stamp(path):
 
 
 def links_replaced(trial, folder):
-    """With --force a link is replaced, and what it leads to is left."""
+    """With --force a link to a file or to nothing is replaced, and what it leads to is left."""
     target = os.path.join(folder, "target")
-    for name, make in (("dangling", None), ("to a file", lambda: write(target, LEFT)), ("to a folder", lambda: os.mkdir(target))):
+    for name, make in (("dangling", None), ("to a file", lambda: write(target, LEFT))):
         if make:
             make()
         before = stamp(target)
@@ -624,7 +629,13 @@ def links_replaced(trial, folder):
         fine = stamp(target) == before and not os.path.islink(trial.packets)
         trial.hold(f"a link {name}", "" if fine else "the link was not replaced, or its target was")
         if make:
-            os.rmdir(target) if os.path.isdir(target) else os.remove(target)
+            os.remove(target)
+    write(trial.packets, None)
+    os.symlink(folder, trial.packets)
+    for options in ([], ["--force"]):
+        trial.fails("a link to a folder", options + [trial.recording, trial.packets], f"{trial.packets}: it is not a file")
+        trial.hold("a link to a folder", "" if os.path.islink(trial.packets) else "it was replaced")
+    write(trial.packets, None)
 
 
 def failing_outputs(trial, folder):
@@ -705,6 +716,19 @@ def standard_input(trial):
             trial.run(f"standard input, {name}", ["-", trial.packets, "700"], expected(data), stdin=f)
 
 
+def closed_streams(trial):
+    """A closed stream brings nothing and takes anything, and no file of the program gets its number."""
+    for stream in (0, 1, 2):
+        for data in (EMPTY, b"no recording"):
+            write(trial.recording, data)
+            write(trial.packets, None)
+            line, packets, status = expected(data)
+            trial.run(f"stream {stream} closed", [trial.recording, trial.packets], ("" if stream == 1 else line, packets, status),
+                      preexec_fn=lambda: os.close(stream), restore_signals=True)
+    write(trial.packets, None)
+    trial.run("recording from a closed stream", ["-", trial.packets], expected(b""), preexec_fn=lambda: os.close(0))
+
+
 def sparse(trial, magic, length):
     """A recording of zeros and of a length that is not held in memory here."""
     with open(trial.recording, "wb") as f:
@@ -755,6 +779,7 @@ def main():
         made_meanwhile(trial)
         taken_name(trial)
         standard_input(trial)
+        closed_streams(trial)
         over_the_limit(trial)
     kinds = ", ".join(f"{k} {n}" for k, n in sorted(seen.items()))
     print(f"intake_test: {damage}")

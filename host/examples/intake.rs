@@ -2,7 +2,7 @@
 // announced. It rests on the crate's safe calls, whose rule for that word it follows. SP recordings are read in pieces by a reader; what
 // a reader does not take is read whole. What it prints and its exit statuses are in `HELP`.
 use klovdrun::demux::{ds2, AudioFormat};
-use klovdrun::{dss_start, frames, tally, Packets, ReadSizes, Reader, Refusal, Tally, DS2_START, FRAME, LIMIT, PACKET};
+use klovdrun::{archive_version, dss_start, frames, tally, Packets, ReadSizes, Reader, Refusal, Tally, DS2_START, FRAME, LIMIT, PACKET, VERSION};
 use std::ffi::{OsStr, OsString};
 use std::fmt;
 use std::fs::{self, File, Metadata, OpenOptions};
@@ -29,8 +29,6 @@ const PART: usize = 1 << 20;
 const SOME_ROOM: usize = 64;
 /// How many temporary names are tried.
 const TRIES: usize = 100;
-/// The system's numbers for what says that a file system has no links: EPERM, ENOSYS, EOPNOTSUPP.
-const NO_LINKS: [i32; 3] = [1, 38, 95];
 
 const HELP: &str = "\
 usage: intake [--force] [--] RECORDING PACKETS [PIECE]
@@ -52,8 +50,9 @@ The other exit statuses, with a line on standard error:
   64  wrong use
 Status 2 is not given.
 
---force replaces a file PACKETS that is there already, which is else left as it is. Neither the recording itself nor anything
-that is not a file is ever replaced. A run that is killed may leave its temporary file .intake-PID beside PACKETS.
+--force replaces a file PACKETS that is there already, which is else left as it is; of a link the link itself, and not what it
+leads to. Neither a recording, this one or another, nor what is not a file is ever replaced, nor a link to one. A run that is
+killed may leave its temporary file .intake-PID beside PACKETS.
 ";
 
 /// Why there is no report.
@@ -175,13 +174,18 @@ impl Drop for Temporary {
     }
 }
 
+/// The folder of PACKETS with its slash.
+fn folder_of(packets: &Path) -> OsString {
+    let bytes = packets.as_os_str().as_bytes();
+    let folder = bytes.iter().rposition(|&byte| byte == b'/').map_or(&b"./"[..], |slash| &bytes[..=slash]);
+    OsStr::from_bytes(folder).to_os_string()
+}
+
 /// Makes a file of a name that is not there yet, in the folder of PACKETS.
 fn make_temporary(packets: &Path) -> io::Result<(Temporary, File)> {
-    let bytes = packets.as_os_str().as_bytes();
-    let folder = &bytes[..bytes.iter().rposition(|&byte| byte == b'/').map_or(0, |slash| slash + 1)];
     let mut tries = 0;
     loop {
-        let mut name = OsStr::from_bytes(folder).to_os_string();
+        let mut name = folder_of(packets);
         name.push(format!(".intake-{}", std::process::id()));
         if tries > 0 {
             name.push(format!("-{tries}"));
@@ -194,19 +198,30 @@ fn make_temporary(packets: &Path) -> io::Result<(Temporary, File)> {
     }
 }
 
+/// Whether a file begins as recordings do. Of a pipe it cannot be told whether it brings this one.
+fn is_recording(name: &Path) -> bool {
+    let mut first = Vec::new();
+    let read = File::open(name).and_then(|file| file.take(4).read_to_end(&mut first));
+    read.is_ok() && !matches!(tally(&first), Err(Refusal { number: Refusal::MAGIC, .. }))
+}
+
 /// Fails if PACKETS must not be written: asked before the recording is read, and again before the file is put in place.
 fn look_at_output(packets: &Path, force: bool, input: &Input) -> Outcome<()> {
     let name = shown(packets);
-    let there = match fs::symlink_metadata(packets) {
+    match fs::symlink_metadata(packets) {
         Err(error) if error.kind() == ErrorKind::NotFound => return Ok(()),
         there => of_system(&name, there)?,
     };
     let known = |file: &Metadata| (file.dev(), file.ino());
     let recording = known(&of_system(&input.name, input.file.get_ref().metadata())?);
-    if fs::metadata(packets).map_or(false, |led_to| known(&led_to) == recording) {
+    // none for a link to nothing
+    let led_to = fs::metadata(packets).ok();
+    if led_to.as_ref().map(known) == Some(recording) {
         failed(&name, "it is the recording itself")
-    } else if !there.is_file() && !there.file_type().is_symlink() {
+    } else if led_to.as_ref().map_or(false, |led_to| !led_to.is_file()) {
         failed(&name, "it is not a file")
+    } else if led_to.is_some() && is_recording(packets) {
+        failed(&name, "it is a recording")
     } else if !force {
         failed(&name, "it is there already; --force replaces it")
     } else {
@@ -289,18 +304,27 @@ impl<'a> Output<'a> {
         of_system(&shown(self.packets), emptied)
     }
 
-    /// A file that was made meanwhile is not overwritten: a link is refused then, as a renaming is not.
+    /// A file that was made meanwhile is not overwritten: a link is refused then, as a renaming is not. Where the file system has no links
+    /// the name is taken first, by an empty file.
+    fn link(&self) -> io::Result<()> {
+        let Temporary(temporary) = &self.temporary;
+        match fs::hard_link(temporary, self.packets) {
+            Err(error) if error.kind() != ErrorKind::AlreadyExists => {
+                OpenOptions::new().write(true).create_new(true).open(self.packets)?;
+                fs::rename(temporary, self.packets)
+            }
+            linked => linked,
+        }
+    }
+
+    /// Puts the file in place, and its name on the disk too: a folder that cannot be opened for that is left to the system.
     fn put_in_place(mut self, input: &Input) -> Outcome<Counted> {
         let name = shown(self.packets);
         of_system(&name, self.file.flush().and_then(|()| self.file.get_ref().sync_all()))?;
         look_at_output(self.packets, self.force, input)?;
-        let Temporary(temporary) = &self.temporary;
-        let linked = if self.force { None } else { Some(fs::hard_link(temporary, self.packets)) };
-        match linked {
-            Some(Err(error)) if !error.raw_os_error().map_or(false, |number| NO_LINKS.contains(&number)) => of_system(&name, Err(error))?,
-            Some(Ok(())) => {}
-            _ => of_system(&name, fs::rename(temporary, self.packets))?,
-        }
+        let placed = if self.force { fs::rename(&self.temporary.0, self.packets) } else { self.link() };
+        of_system(&name, placed)?;
+        let _ = File::open(folder_of(self.packets)).and_then(|folder| folder.sync_all());
         Ok(self.counted)
     }
 }
@@ -541,6 +565,10 @@ fn command_line(arguments: impl Iterator<Item = OsString>) -> Outcome<Asked> {
 }
 
 fn run(recording: &OsStr, packets: &Path, size: usize, force: bool) -> Outcome<Report> {
+    let told = archive_version();
+    if told != VERSION {
+        return Err(Stop::Failed(format!("the archive has version {told}, and this program is for version {VERSION}")));
+    }
     let mut input = Input::open(recording)?;
     look_at_output(packets, force, &input)?;
     let mut output = Output::create(packets, force)?;

@@ -40,7 +40,12 @@ pub use tally::{tally, Tally};
 
 /// The version of the archive that this crate is for. The first call asks the archive for its own, and panics if that is another: nothing
 /// else can be said with it.
-pub const VERSION: u64 = 1;
+pub const VERSION: u64 = raw::VERSION;
+/// The version that the archive tells, for a host that would rather ask than have the first call panic.
+#[must_use]
+pub fn archive_version() -> u64 {
+    raw::version()
+}
 /// The longest input in bytes, whole or in pieces.
 pub const LIMIT: usize = 268_435_456;
 /// Bytes of a packet.
@@ -54,6 +59,7 @@ pub const PAYLOAD: usize = 506;
 /// Where a DS2 recording's audio starts if its first byte is 1 or 3.
 pub const DS2_START: FilePlace = FilePlace(1536);
 /// Where a DSS recording's audio starts, by its first byte, 2 or 3.
+#[must_use]
 pub const fn dss_start(first: u8) -> FilePlace {
     FilePlace(BLOCK * first as usize)
 }

@@ -16,11 +16,13 @@ pub struct Packets {
 
 impl Packets {
     /// How many packets there are.
+    #[must_use]
     pub fn len(&self) -> usize {
         self.counts.len()
     }
 
     /// Whether there are none.
+    #[must_use]
     pub fn is_empty(&self) -> bool {
         self.counts.is_empty()
     }

@@ -4,10 +4,11 @@
 #![allow(unsafe_code)]
 
 use crate::error::{Refusal, Result};
-use crate::VERSION;
 use std::mem::{align_of, size_of, MaybeUninit};
 use std::sync::atomic::{AtomicBool, Ordering};
 
+/// The version of the archive that these declarations are for.
+pub(crate) const VERSION: u64 = 1;
 const READER_SIZE: usize = 12928;
 
 /// `klov_answer`.
@@ -120,11 +121,16 @@ extern "C" {
         -> Answer;
 }
 
+/// The archive's version.
+pub(crate) fn version() -> u64 {
+    unsafe { klov_version() }
+}
+
 /// Asks the archive for its version before the first call of it: in another one the numbers and the layouts may be others.
 fn checked() {
     static IS_OURS: AtomicBool = AtomicBool::new(false);
     if !IS_OURS.load(Ordering::Relaxed) {
-        let told = unsafe { klov_version() };
+        let told = version();
         assert!(told == VERSION, "libklovdrun.a has version {told}, and this crate is for version {VERSION}");
         IS_OURS.store(true, Ordering::Relaxed);
     }

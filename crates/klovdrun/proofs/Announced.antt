@@ -1,4 +1,5 @@
--- One rule for "complete as announced": of a file that is read as a reader's kind, the strict end answers exactly if the tally's numbers say so.
+-- One rule for "complete as announced": of a file that is read as a reader's kind, the strict end answers exactly if the tally's numbers say so;
+-- and of a QP file that they say it of no frame is missing.
 -- Assumes nothing.
 use Prim.Native.Nat.{ℕ, _+_, _*_, _≤_, _<_}
 use mathlib.Core.Path.{_≡_, refl, sym, ap, _∙_, subst}
@@ -23,16 +24,18 @@ use Rattle.whole.proofs.Admissions.{dss-recording, ds2-recording}
 use Rattle.sp.specs.Readings.{Reading, total, wholeAt, CompleteAt}
 use Rattle.sp.proofs.Theorems.{whole-exactly}
 use Rattle.sp.proofs.ReadLists.{packets-announced}
+use Rattle.qp.specs.Segments.{segmentsFrom}
+use Rattle.qp.specs.Handed.{missingFrom}
 use Rattle.frames.specs.Frames.{howMany}
 use Rattle.frames.proofs.Frames.{none-such, none-counted}
 use Rattle.tally.specs.declared.HandedOut.{HandedOut}
 use Rattle.tally.specs.declared.FileKind.{FileKind}
-use Rattle.tally.specs.declared.FileKind.the-variants.{DssSp, Ds2Sp}
+use Rattle.tally.specs.declared.FileKind.the-variants.{DssSp, Ds2Sp, Ds2Qp}
 use Rattle.tally.specs.declared.Figures.{Figures}
 use Rattle.tally.specs.HandedOut.{packetsOut}
 use Rattle.tally.specs.Tallies.{tallied}
 use Rattle.tally.specs.Agreement.{kindFor, wholeOut, talliedOut}
-use Rattle.tally.proofs.Theorems.{tally-is-the-reading, what-is-tallied, all-packets}
+use Rattle.tally.proofs.Theorems.{tally-is-the-reading, what-is-tallied, all-packets, frames-and-missing}
 use Rattle.reader.specs.declared.Reader.{Reader}
 use Rattle.reader.specs.State.{isDss, startOf, blocksIn, readingBy, opened as fresh, Reached}
 use Rattle.reader.specs.History.{StrictCall, joined}
@@ -50,7 +53,7 @@ use Rattle.klovdrun.specs.declared.Opened.{Opened}
 use Rattle.klovdrun.specs.Wrapped.{stepTo, OpenCarries, Advances}
 use Rattle.klovdrun.specs.Hosted.{Given}
 use Rattle.klovdrun.specs.Announced.{AsAnnounced}
-use Rattle.klovdrun.proofs.Theorems.{open-tells, strict-end-tells}
+use Rattle.klovdrun.proofs.Theorems.{klov-tally-tells, open-tells, strict-end-tells}
 use Rattle.klovdrun.proofs.Counted.{opened-none}
 use Rattle.klovdrun.proofs.Complete.{given-fed, told-complete}
 
@@ -180,3 +183,13 @@ one-rule kind carries begun {pieces = pieces} given {stored} {r} c agrees is =
           absurd (not-both (sym (why .1) ∙ sym (at-state known (c .carries .comes) .answer-is) ∙ said)))
           (λ none. omega (arith, none))),
     )
+
+-- Of a QP file that is complete as announced no frame is missing.
+pub none-missing : (f : List ℕ) {told : Tallied} → told ≡ tallyNumbers (tallied f) → AsAnnounced told (length f) → kindFor f ≡ Ds2Qp
+    → (rec : Recording) × (admission f (namesDss f) (not (namesDss f)) ≡ answers rec) × (missingFrom (segmentsFrom f rec) ≡ 0)
+none-missing f is rule kind =
+    let t = klov-tally-tells f is .zero (rule .answered) in
+    let figures = t .0 in
+    let w = frames-and-missing f figures (t .1) (what-is-tallied f figures (t .1) .0 ∙ kind) in
+    let numbers = subst (λ (numbers : Tallied). AsAnnounced numbers (length f)) (is ∙ ap tallyNumbers (t .1)) rule in
+    (w .0, w .1, omega (arith, w .2, numbers .all-handed))

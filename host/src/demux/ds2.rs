@@ -79,8 +79,10 @@ pub fn demux_ds2(data: &[u8]) -> Result<DemuxedDs2> {
             let total_frames = packets.len();
             Ok(DemuxedDs2::Sp { packets: packets.vectors(total_frames), total_frames })
         }
-        Err(Refusal { number: Refusal::TYPE, beside: 7 }) => qp7_segments(data),
-        Err(Refusal { number: Refusal::TYPE, .. }) => qp_segments(data),
+        Err(Refusal { number: Refusal::TYPE, .. }) => match qp_segments(data) {
+            Err(Refusal { number: Refusal::TYPE, .. }) => qp7_segments(data),
+            answer => answer,
+        },
         Err(refusal) => Err(refusal),
     }
 }
@@ -303,7 +305,7 @@ impl Ds2QpStreamDemuxer {
                 let places = table.rows.iter().flat_map(|&row| frames::frames(row));
                 places.map(|(place, size)| frames::fetch(file, place, size, &mut scratch).map(<[u8]>::to_vec)).collect()
             }
-            Err(Refusal { number: Refusal::TYPE, beside: 7 }) => {
+            Err(Refusal { number: Refusal::TYPE, .. }) => {
                 let records = demux_ds2_qp7(file)?.records;
                 records.iter().map(|&place| frames::record(file, place, &mut scratch).map(<[u8]>::to_vec)).collect()
             }
