@@ -213,7 +213,10 @@ def check_names(header, source):
     compare("Rust texts", [(name, texts[number] if number < len(texts) else "") for name, number in named.items()], list(said.items()))
     numbers = text("crates/numbers/specs/Numbers.antt")
     for function, before in (("formatNumber", "KLOV_FORMAT_"), ("kindNumber", "KLOV_")):
-        for name, number in re.findall(rf"^{function} (?:kinds\.)?(\w+) = (\d+)$", numbers, re.M):
+        cases = re.findall(rf"^{function} (?:kinds\.)?(\w+) = (\d+)$", numbers, re.M)
+        if not cases:
+            say("Numbers.antt", f"the cases of {function}", "none")
+        for name, number in cases:
             c_name = before + re.sub(r"(?<=[a-z\d])(?=[A-Z])", "_", name).upper()
             if not re.search(rf"\b{c_name} = {number}\b", header):
                 say("header", f"{c_name} = {number}", "none")
@@ -260,9 +263,9 @@ def check_used(path):
 
 def check_quote(readme, source):
     """What host/README.md has for a decoder stands in the error module with which one is compiled."""
-    for quote in re.findall(r"^    impl From<.*?^    }$", readme, re.S | re.M):
-        if re.sub(r"^    ", "", quote, flags=re.M) not in source:
-            say("host/README.md", "the conversion of compare/decoder/error.rs", quote)
+    quote = re.search(r"^    impl From<.*?^    }$", readme, re.S | re.M)
+    if not quote or re.sub(r"^    ", "", quote.group(0), flags=re.M) not in source:
+        say("host/README.md", "the conversion of compare/decoder/error.rs", quote and quote.group(0))
 
 
 def main():

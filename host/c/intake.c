@@ -43,8 +43,8 @@ static const char help[] =
     "Status 2 is not given.\n"
     "\n"
     "--force replaces a file PACKETS that is there already, which is else left as it is; of a link the link itself, and not what it\n"
-    "leads to. Neither a recording, this one or another, nor what is not a file is ever replaced, nor a link to one. A run that is\n"
-    "killed may leave its temporary file .intake-PID beside PACKETS.\n";
+    "leads to. Neither a DSS or DS2 recording, this one or another, nor what is not a file is ever replaced, nor a link to one. A run\n"
+    "that is killed may leave its temporary file .intake-PID beside PACKETS.\n";
 
 /* Bytes that grow. `room` is never 0 after the first reserve, so `at` is then a pointer that may be lent. */
 struct bytes {

@@ -51,8 +51,8 @@ The other exit statuses, with a line on standard error:
 Status 2 is not given.
 
 --force replaces a file PACKETS that is there already, which is else left as it is; of a link the link itself, and not what it
-leads to. Neither a recording, this one or another, nor what is not a file is ever replaced, nor a link to one. A run that is
-killed may leave its temporary file .intake-PID beside PACKETS.
+leads to. Neither a DSS or DS2 recording, this one or another, nor what is not a file is ever replaced, nor a link to one. A run
+that is killed may leave its temporary file .intake-PID beside PACKETS.
 ";
 
 /// Why there is no report.

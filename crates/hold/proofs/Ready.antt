@@ -153,7 +153,7 @@ module _ (f : List ℕ) (a n : ℕ) where
         absurd (omega (arith, cut, whole)))),
   )
 
--- the reads of a run end inside if its last one is complete, or if it has none and begins inside
+-- the reads of a run that begins inside end inside if they are complete; it may have none
 run-ends : (s : ℕ → ℕ) (carry long : ℕ) (run : Run) → run .start .0 ≤ long
     → ((i : ℕ) → i < run .count → Complete long (steps s (runBegin carry run) i)) → endsAt run ≤ long
 run-ends s carry long run begins all =

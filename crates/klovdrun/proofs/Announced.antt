@@ -1,5 +1,5 @@
 -- One rule for "complete as announced": of a file that is read as a reader's kind, the strict end answers exactly if the tally's numbers say so;
--- and of a QP file that they say it of no frame is missing.
+-- and of a QP file that they say it of no frame is missing or short.
 -- Assumes nothing.
 use Prim.Native.Nat.{ℕ, _+_, _*_, _≤_, _<_}
 use mathlib.Core.Path.{_≡_, refl, sym, ap, _∙_, subst}
@@ -25,7 +25,7 @@ use Rattle.sp.specs.Readings.{Reading, total, wholeAt, CompleteAt}
 use Rattle.sp.proofs.Theorems.{whole-exactly}
 use Rattle.sp.proofs.ReadLists.{packets-announced}
 use Rattle.qp.specs.Segments.{segmentsFrom}
-use Rattle.qp.specs.Handed.{missingFrom}
+use Rattle.qp.specs.Handed.{shortOf, missingFrom}
 use Rattle.frames.specs.Frames.{howMany}
 use Rattle.frames.proofs.Frames.{none-such, none-counted}
 use Rattle.tally.specs.declared.HandedOut.{HandedOut}
@@ -184,12 +184,13 @@ one-rule kind carries begun {pieces = pieces} given {stored} {r} c agrees is =
           (λ none. omega (arith, none))),
     )
 
--- Of a QP file that is complete as announced no frame is missing.
-pub none-missing : (f : List ℕ) {told : Tallied} → told ≡ tallyNumbers (tallied f) → AsAnnounced told (length f) → kindFor f ≡ Ds2Qp
+-- Of a QP file that is complete as announced no frame is missing, and none is short.
+pub frames-complete : (f : List ℕ) {told : Tallied} → told ≡ tallyNumbers (tallied f) → AsAnnounced told (length f) → kindFor f ≡ Ds2Qp
     → (rec : Recording) × (admission f (namesDss f) (not (namesDss f)) ≡ answers rec) × (missingFrom (segmentsFrom f rec) ≡ 0)
-none-missing f is rule kind =
+    × (shortOf (segmentsFrom f rec) ≡ 0)
+frames-complete f is rule kind =
     let t = klov-tally-tells f is .zero (rule .answered) in
     let figures = t .0 in
     let w = frames-and-missing f figures (t .1) (what-is-tallied f figures (t .1) .0 ∙ kind) in
     let numbers = subst (λ (numbers : Tallied). AsAnnounced numbers (length f)) (is ∙ ap tallyNumbers (t .1)) rule in
-    (w .0, w .1, omega (arith, w .2, numbers .all-handed))
+    (w .0, w .1, omega (arith, w .2, numbers .all-handed), sym (w .3) ∙ numbers .none-short)

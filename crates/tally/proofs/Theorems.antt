@@ -13,7 +13,7 @@ use Rattle.whole.specs.declared.Recording.{Recording}
 use Rattle.whole.specs.Admissions.{admission, announcedBy, streamIn}
 use Rattle.sp.proofs.ReadLists.{ds2-packets, dss-packets}
 use Rattle.qp.specs.Segments.{segmentsFrom}
-use Rattle.qp.specs.Handed.{missingFrom}
+use Rattle.qp.specs.Handed.{shortOf, missingFrom}
 use Rattle.qp.proofs.Kept.{totals-add-up, handed-or-missing}
 use Rattle.qp7.specs.Walk.{gatheredFrom}
 use Rattle.qp7.proofs.Keeping.{records-many}
@@ -60,10 +60,11 @@ module _ (f : List ℕ) (figures : Figures) (says : tallied f ≡ answers figure
       AsAnnounced : HandedOut → Type 0
       AsAnnounced out = out .many ≡ figures .announced
 
-  -- A QP recording hands out all frames that it announces, but for those that are missing from its segments.
+  -- A QP recording hands out all frames that it announces, but for those that are missing from its segments, and short ones are those of its
+  -- segments.
   pub frames-and-missing : figures .kind ≡ Ds2Qp
       → (rec : Recording) × (admission f (namesDss f) (not (namesDss f)) ≡ answers rec)
-      × (figures .out .many + missingFrom (segmentsFrom f rec) ≡ figures .announced)
+      × (figures .out .many + missingFrom (segmentsFrom f rec) ≡ figures .announced) × (figures .out .short ≡ shortOf (segmentsFrom f rec))
   frames-and-missing is =
       let c = counting f figures says in
       let rec = c .rec in (
@@ -73,6 +74,7 @@ module _ (f : List ℕ) (figures : Figures) (says : tallied f ≡ answers figure
             (handed-or-missing (segmentsFrom f rec)
             ∙ totals-add-up f (rec .start .0) (rec .blocks)
             ∙ sym (c .announced-are)),
+        for-the-answer (λ (out : HandedOut). out .short ≡ shortOf (segmentsFrom f rec)) (handed-by Ds2Qp is) refl,
       )
 
   -- A QP7 recording hands out all records that it announces.
