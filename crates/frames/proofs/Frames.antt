@@ -1,18 +1,19 @@
 -- Laws of a segment's frames: which are found, how many are handed out, short or missing, and that their sizes add up.
 -- Assumes nothing.
 use Prim.Native.Nat.{ℕ, zero, suc, _+_, _*_, _-_, _/_, _%_, _≤_, _<_, _^_, min}
-use mathlib.Core.Path.{_≡_, refl, sym, ap, _∙_}
-use mathlib.Core.Bool.{Bool, true, false, cond, not}
-use native.Mathlib.Nat.{mul-suc, not-suc-le-zero}
+use mathlib.Core.Path.{_≡_, sym, ap, _∙_}
+use mathlib.Core.Bool.{true, false, cond}
+use native.Mathlib.Nat.{mul-suc}
 use native.Mathlib.Omega.{arith}
 use borrow.Author.Tests.{le-leb, lt-leb, lt-ltb, le-ltb, eq-eqb, ne-eqb}
 use lib.Dec.{eqb}
 use Rattle.tables.specs.Table.{table, sum}
+use Rattle.tables.specs.Counting.{howMany}
 use Rattle.tables.proofs.Cases.{by-order, by-equal}
+use Rattle.tables.proofs.Counting.{all-counted, none-such, one-such}
 use Rattle.tables.proofs.Table.{same-table}
 use Rattle.frames.specs.declared.Found.{Found}
-use Rattle.frames.specs.Frames.{isMissing, frameSize, isShort, howMany, handedOut, shortAmong, missingOf, noFrame, frameOf}
-use Rattle.tables.proofs.Cases.{by-test}
+use Rattle.frames.specs.Frames.{isMissing, frameSize, isShort, handedOut, shortAmong, missingOf, noFrame, frameOf}
 
 -- a place and a size
 abbrev found : ℕ → ℕ → Found
@@ -39,46 +40,6 @@ module _ (start long k : ℕ) where
   pub none-found : (r : Found) → (r .place .0 ≡ 0) × (r .size ≡ 0) → frameOf start long k ≡ noFrame → r ≡ frameOf start long k
   none-found r none e =
       ap (λ (place : ℕ). found place (r .size)) (none .0) ∙ ap (found 0) (none .1) ∙ sym e
-
--- each of the first n is such or is not
-all-counted : (n : ℕ) (such : ℕ → Bool) → howMany n (λ k. not (such k)) + howMany n such ≡ n
-unfolding howMany
-all-counted zero such = refl
-all-counted (suc n) such =
-    let before = all-counted n such in
-    by-test (such n) (λ h. simp h (omega arith)) (λ h. simp h (omega arith))
-
--- none of the first n is such
-pub none-such : (n : ℕ) (such : ℕ → Bool) → ((k : ℕ) → k < n → such k ≡ false) → howMany n such ≡ 0
-unfolding howMany
-none-such zero such none = refl
-none-such (suc n) such none =
-    let before = none-such n such (λ k h. none k (omega arith)) in
-    let last : such n ≡ false = none n (omega arith) in
-    simp (before, last)
-
-pub none-counted : (n : ℕ) (such : ℕ → Bool) → howMany n such ≡ 0 → (k : ℕ) → k < n → such k ≡ false
-unfolding howMany
-none-counted zero such none k h = absurd (not-suc-le-zero h)
-none-counted (suc n) such none k h =
-    by-test (such n)
-    (λ last. absurd (omega (arith, rw last at none)))
-    (λ last. by-equal k n (λ same. rw same last) (λ other. none-counted n such (omega (arith, rw last at none)) k (omega arith)))
-
--- one of the first n is such, and no other
-one-such : (n : ℕ) (such : ℕ → Bool) (j : ℕ) → j < n → such j ≡ true → ((k : ℕ) → (k ≡ j → ⊥) → such k ≡ false) → howMany n such ≡ 1
-unfolding howMany
-one-such zero such j there is others = absurd (not-suc-le-zero there)
-one-such (suc n) such j there is others =
-    by-equal n j
-    (λ e.
-    let before = none-such n such (λ k h. others k (λ (same : k ≡ j). omega arith)) in
-    let last : such n ≡ true = rw e is in
-    simp (before, last))
-    (λ e.
-    let before = one-such n such j (omega arith) is others in
-    let last : such n ≡ false = others n e in
-    simp (before, last))
 
 -- as many of the first n begin inside the segment
 pub handed-among : (long n : ℕ) → handedOut long n ≡ min n ((long + 55) / 56)

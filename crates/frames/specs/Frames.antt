@@ -1,8 +1,9 @@
 -- A segment's bytes cut by 56: which of its announced frames are handed out, which of those are short, and which are missing.
 -- Assumes nothing.
-use Prim.Native.Nat.{ℕ, zero, suc, _+_, _*_, _-_, _^_, min}
+use Prim.Native.Nat.{ℕ, _+_, _*_, _-_, _^_, min}
 use mathlib.Core.Bool.{Bool, false, cond, not}
 use lib.Dec.{leb, ltb}
+use Rattle.tables.specs.Counting.{howMany}
 use Rattle.frames.specs.declared.Found.{Found}
 
 -- frame k of a segment of so many bytes is missing if its first byte is at or past the segment's end, and is else handed out
@@ -19,11 +20,6 @@ frameSize long k = min 56 (long - 56 * k)
 -- it is short if it is handed out with fewer than 56
 abbrev pub isShort : ℕ → ℕ → Bool
 isShort long k = cond (isMissing long k) false (ltb (frameSize long k) 56)
-
--- how many of the first n frames are such
-unfoldable pub howMany : ℕ → (ℕ → Bool) → ℕ
-howMany zero such = 0
-howMany (suc k) such = howMany k such + cond (such k) 1 0
 
 -- of a segment of so many bytes that announces n frames
 abbrev pub handedOut : ℕ → ℕ → ℕ

@@ -26,8 +26,8 @@ use Rattle.sp.proofs.Theorems.{whole-exactly}
 use Rattle.sp.proofs.ReadLists.{packets-announced}
 use Rattle.qp.specs.Segments.{segmentsFrom}
 use Rattle.qp.specs.Handed.{shortOf, missingFrom}
-use Rattle.frames.specs.Frames.{howMany}
-use Rattle.frames.proofs.Frames.{none-such, none-counted}
+use Rattle.tables.specs.Counting.{howMany}
+use Rattle.tables.proofs.Counting.{none-such, none-counted}
 use Rattle.tally.specs.declared.HandedOut.{HandedOut}
 use Rattle.tally.specs.declared.FileKind.{FileKind}
 use Rattle.tally.specs.declared.FileKind.the-variants.{DssSp, Ds2Sp, Ds2Qp}

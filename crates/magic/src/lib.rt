@@ -21,8 +21,8 @@ pub fn first_byte(file: &[u8]) -> u8
     if 0 < file.len() { file[0] } else { 0 }
 }
 
-// Whether bytes 1 to 3 of the file are these.
-fn is_spelt(file: &[u8], x: u8, y: u8, z: u8) -> bool
+// For the crates above too. Whether bytes 1 to 3 of the file are these.
+pub fn is_spelt(file: &[u8], x: u8, y: u8, z: u8) -> bool
     requires { ⌜ 4 ≤ length (now file) ⌝ }
     ensures { λ r. ⌜ r ≡ spells (now (file .entry)) x y z ⌝ }
 {

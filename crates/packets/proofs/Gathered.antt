@@ -20,14 +20,16 @@ use Rattle.packets.specs.declared.Packet.{Packet}
 use Rattle.packets.specs.Packet.{readSize, packetByte, carryAfter, from, fileCount, IsPacket}
 use Rattle.packets.proofs.Packets.{read-most}
 use Rattle.packets.proofs.Longer.{Agree, same-packet, same-carry}
-use Rattle.packets.specs.Inner.{bytesOf, Shifted, Blended, Window}
+use Rattle.packets.specs.Inner.{bytesOf, Shifted, Blends, Blended, Window}
 
 -- the carried byte and 40 bytes that stand 3 on, taken 4 on at even places and as they stand at odd ones, are a swapped packet
-pub blend : (carry : ℕ) (c : ℕ → ℕ) (v x : List ℕ) → Shifted carry c v → length x ≡ 48
-    → ((k : ℕ) → k < 48 → getD x k 0 ≡ cond (eqb (k % 2) 0) (getD v (k + 4) 0) (getD v k 0)) → Blended carry c x
+pub blended-is : (carry : ℕ) (c : ℕ → ℕ) (v x : List ℕ) → Shifted carry c v → Blends v x → Blended carry c x
 unfolding packetByte
-blend carry c v x shifted long value = record { long = long; packet = in-place }
+blended-is carry c v x shifted blends = record { long = blends .long; packet = in-place }
   where
+    value : (k : ℕ) → k < 48 → getD x k 0 ≡ cond (eqb (k % 2) 0) (getD v (k + 4) 0) (getD v k 0)
+    value = blends .at
+
     in-place : (k : ℕ) → k < 42 → getD x k 0 ≡ packetByte true carry c k
     in-place k h =
         by-equal k 40

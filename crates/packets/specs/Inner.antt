@@ -3,8 +3,9 @@
 use Prim.Native.Nat.{ℕ, _+_, _<_, _/_, _%_}
 use mathlib.Core.Path.{_≡_}
 use mathlib.Core.List.{List}
-use mathlib.Core.Bool.{true}
+use mathlib.Core.Bool.{true, cond}
 use lib.ListN.{length, getD}
+use lib.Dec.{eqb}
 use Rattle.packets.specs.Packet.{packetByte}
 use Rattle.packets.specs.Walk.{Walk, steps, byteOf}
 
@@ -18,6 +19,11 @@ pub record Shifted (carry : ℕ) (c : ℕ → ℕ) (v : List ℕ) : Type 0 where
   pub carried : getD v 1 0 ≡ carry
   pub at : (k : ℕ) → k < 40 → getD v (3 + k) 0 ≡ c k
   pub zero : getD v 44 0 ≡ 0
+
+-- x has what stands in v, 4 on at even places and as it stands at odd ones
+pub record Blends (v x : List ℕ) : Type 0 where
+  pub long : length x ≡ 48
+  pub at : (k : ℕ) → k < 48 → getD x k 0 ≡ cond (eqb (k % 2) 0) (getD v (k + 4) 0) (getD v k 0)
 
 -- x begins with a swapped packet
 pub record Blended (carry : ℕ) (c : ℕ → ℕ) (x : List ℕ) : Type 0 where

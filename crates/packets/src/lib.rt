@@ -13,7 +13,7 @@ ghost use Rattle.blocks.specs.Places.{Whole, streamAt};
 ghost use Rattle.packets.specs.Packet.{readSize, packetByte, carryAfter, from, fileCount, IsPacket};
 ghost use Rattle.packets.specs.Start.{dssStart};
 ghost use Rattle.packets.specs.Walk.{reach, parity};
-ghost use Rattle.packets.specs.Inner.{bytesOf, Shifted, Blended, Window};
+ghost use Rattle.packets.specs.Inner.{bytesOf, Shifted, Blends, Blended, Window};
 
 // The size of a packet.
 pub const PACKET: usize = 42;
@@ -137,12 +137,10 @@ fn either(k: usize, even: u8, odd: u8) -> u8
     if k % 2 == 0 { even } else { odd }
 }
 
-// A swapped read's packet and six idle places: 48 and not 42, so that it is whole vectors.
-fn blended(src: &[u8], at: usize, carry: u8) -> [u8; 48]
-    requires { ⌜ at + 40 ≤ length (now src) ⌝ }
-    ensures { λ r. ⌜ Blended carry (from (bytesOf (now (src .entry))) at) r ⌝ }
+// For the crates above too. What stands 4 on at even places, and as it stands at odd ones: 48 and not 42 places, so that it is whole vectors.
+pub fn blend(read: [u8; 52]) -> [u8; 48]
+    ensures { λ r. ⌜ Blends read r ⌝ }
 {
-    let read = shifted(src, at, carry);
     let mut blend = [0u8; 48];
     let mut k = 0;
     while k < 48 {
@@ -150,6 +148,15 @@ fn blended(src: &[u8], at: usize, carry: u8) -> [u8; 48]
         k += 1;
     }
     blend
+}
+
+// A swapped read's packet and six idle places.
+fn blended(src: &[u8], at: usize, carry: u8) -> [u8; 48]
+    requires { ⌜ at + 40 ≤ length (now src) ⌝ }
+    ensures { λ r. ⌜ Blended carry (from (bytesOf (now (src .entry))) at) r ⌝ }
+{
+    let read = shifted(src, at, carry);
+    blend(read)
 }
 
 // A swapped read's packet.

@@ -4,5 +4,6 @@ pub mod Lent
 pub mod Entries
 pub mod Parts
 pub mod Table
+pub mod Counting
 pub mod Tests
 pub mod Search

@@ -14,7 +14,7 @@ use Rattle.packets.specs.Walk.{Walk, reach}
 use Rattle.packets.proofs.Packets.{whole-if, whole-says}
 use Rattle.packets.proofs.Reaches.{reach-most}
 use Rattle.packets.proofs.Walk.{steps-more, steps-place}
-use Rattle.frames.specs.Frames.{howMany}
+use Rattle.tables.specs.Counting.{howMany}
 use Rattle.sp.specs.declared.Run.{Run}
 use Rattle.sp.specs.Runs.{runBegin, packetsIn}
 use Rattle.sp.specs.Readings.{Reading, total, walkAt, wholeAt, fileCountAt}

@@ -12,7 +12,7 @@ use Rattle.tables.proofs.Table.{same-table, table-sum-none, table-sum-more}
 use Rattle.blocks.specs.Headers.{countOf}
 use Rattle.packets.specs.Packet.{fileCount, isWhole}
 use Rattle.packets.specs.Walk.{Walk}
-use Rattle.frames.specs.Frames.{howMany}
+use Rattle.tables.specs.Counting.{howMany}
 use Rattle.sp.specs.declared.Run.{Run}
 use Rattle.sp.specs.Runs.{packetsIn, standsAt, carryPast}
 use Rattle.sp.specs.ReadLists.{dssRun, dssRuns}

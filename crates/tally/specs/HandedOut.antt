@@ -5,7 +5,7 @@ use mathlib.Core.List.{List}
 use mathlib.Core.Bool.{not}
 use lib.ListN.{length}
 use Rattle.tables.specs.Table.{table, sum, sumOf}
-use Rattle.frames.specs.Frames.{howMany}
+use Rattle.tables.specs.Counting.{howMany}
 use Rattle.sp.specs.Readings.{Reading, total, wholeAt, fileCountAt}
 use Rattle.qp.specs.declared.Segment.{Segment}
 use Rattle.qp.specs.Handed.{handedOutOf, shortOf, bytesIn}

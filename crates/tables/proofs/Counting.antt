@@ -1,0 +1,49 @@
+-- Laws of how many of the first n are such.
+-- Assumes nothing.
+use Prim.Native.Nat.{ℕ, zero, suc, _+_, _<_}
+use mathlib.Core.Path.{_≡_, refl}
+use mathlib.Core.Bool.{Bool, true, false, not}
+use native.Mathlib.Nat.{not-suc-le-zero}
+use native.Mathlib.Omega.{arith}
+use Rattle.tables.proofs.Cases.{by-equal, by-test}
+use Rattle.tables.specs.Counting.{howMany}
+
+-- each of the first n is such or is not
+pub all-counted : (n : ℕ) (such : ℕ → Bool) → howMany n (λ k. not (such k)) + howMany n such ≡ n
+unfolding howMany
+all-counted zero such = refl
+all-counted (suc n) such =
+    let before = all-counted n such in
+    by-test (such n) (λ h. simp h (omega arith)) (λ h. simp h (omega arith))
+
+-- none of the first n is such
+pub none-such : (n : ℕ) (such : ℕ → Bool) → ((k : ℕ) → k < n → such k ≡ false) → howMany n such ≡ 0
+unfolding howMany
+none-such zero such none = refl
+none-such (suc n) such none =
+    let before = none-such n such (λ k h. none k (omega arith)) in
+    let last : such n ≡ false = none n (omega arith) in
+    simp (before, last)
+
+pub none-counted : (n : ℕ) (such : ℕ → Bool) → howMany n such ≡ 0 → (k : ℕ) → k < n → such k ≡ false
+unfolding howMany
+none-counted zero such none k h = absurd (not-suc-le-zero h)
+none-counted (suc n) such none k h =
+    by-test (such n)
+    (λ last. absurd (omega (arith, rw last at none)))
+    (λ last. by-equal k n (λ same. rw same last) (λ other. none-counted n such (omega (arith, rw last at none)) k (omega arith)))
+
+-- one of the first n is such, and no other
+pub one-such : (n : ℕ) (such : ℕ → Bool) (j : ℕ) → j < n → such j ≡ true → ((k : ℕ) → (k ≡ j → ⊥) → such k ≡ false) → howMany n such ≡ 1
+unfolding howMany
+one-such zero such j there is others = absurd (not-suc-le-zero there)
+one-such (suc n) such j there is others =
+    by-equal n j
+    (λ e.
+    let before = none-such n such (λ k h. others k (λ (same : k ≡ j). omega arith)) in
+    let last : such n ≡ true = rw e is in
+    simp (before, last))
+    (λ e.
+    let before = one-such n such j (omega arith) is others in
+    let last : such n ≡ false = others n e in
+    simp (before, last))
