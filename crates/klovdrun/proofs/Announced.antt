@@ -127,8 +127,10 @@ module _ (kind : ℕ) (f : List ℕ) (small : length f ≤ limit) (agrees : Agre
       let w = went-on (tallied f) (λ (figures : Figures). answers (figures .out)) (tallies kind f small agrees) in
       record { figures = w .0; is-theirs = is ∙ ap tallyNumbers (w .1); so = stands kind f small agrees (w .0) (w .1) }
 
-  complete-tallied : {n : ℕ} {packets entries : List ℕ} → CompleteRecording kind f n packets entries → AsAnnounced told (length f)
-  complete-tallied c =
+  -- if no packet is short, and no byte lies past the last whole block
+  pub tallied-as : ((k : ℕ) → k < total (readingBy kind f) → CompleteAt (readingBy kind f) k) → length f ≡ startOf kind + 512 * blocksIn kind f
+      → AsAnnounced told (length f)
+  tallied-as complete none-past =
       let v = figured in
       let r = readingBy kind f in
       subst (λ (numbers : Tallied). AsAnnounced numbers (length f)) (sym (v .is-theirs))
@@ -137,10 +139,13 @@ module _ (kind : ℕ) (f : List ℕ) (small : length f ≤ limit) (agrees : Agre
         all-handed = v .so .as-announced;
         none-short =
             ap (λ (out : HandedOut). out .short) (v .so .hands)
-            ∙ none-such (total r) (λ k. not (wholeAt r k))
-            (λ k h. rw (whole-exactly r k .3 (c .none-short k (omega (arith, c .all-read agrees .1)))));
-        none-past = omega (arith, c .none-cut, agrees .full, v .so .start-is, v .so .blocks-are);
+            ∙ none-such (total r) (λ k. not (wholeAt r k)) (λ k h. rw (whole-exactly r k .3 (complete k h)));
+        none-past = omega (arith, none-past, v .so .start-is, v .so .blocks-are);
       })
+
+  complete-tallied : {n : ℕ} {packets entries : List ℕ} → CompleteRecording kind f n packets entries → AsAnnounced told (length f)
+  complete-tallied c =
+      tallied-as (λ k h. c .none-short k (omega (arith, c .all-read agrees .1))) (omega (arith, c .none-cut, agrees .full))
 
   tallied-complete : AsAnnounced told (length f)
       → (length f ≡ startOf kind + 512 * blocksIn kind f)

@@ -7,3 +7,4 @@ pub mod Hosted
 pub mod Counted
 pub mod Complete
 pub mod Announced
+pub mod Written

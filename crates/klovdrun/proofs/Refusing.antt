@@ -1,6 +1,6 @@
 -- Whatever an export's wrapped call refuses by is in the export's list.
 -- Assumes nothing.
-use Prim.Native.Nat.{ℕ, _+_}
+use Prim.Native.Nat.{ℕ, _+_, _*_}
 use mathlib.Core.Path.{_≡_, refl}
 use mathlib.Core.List.{List, _++_}
 use mathlib.Core.Bool.{Bool, true, false, not, cond}
@@ -21,9 +21,11 @@ use Rattle.qp7.specs.Walk.{gatheredFrom, qp7Reading}
 use Rattle.qp7.specs.Outcome.{inRoom as inRecords, answered as records}
 use Rattle.qp7.proofs.Refusing.{gathering-all}
 use Rattle.frames.specs.Fetch.{canFetch, fetchFrom, standing}
+use Rattle.laying.specs.Header.{isHeader}
+use Rattle.writing.specs.Outcome.{soundIn, sizeOf, writtenSize}
 use Rattle.reader.specs.State.{State, isKind, startOf, owed, fitsBy, headerDone}
 use Rattle.reader.specs.Calls.{openSaid, brings, pieceSaid, inBlock, strictBy, strictSaid, lenientSaid}
-use Rattle.klovdrun.specs.Refusals.{payloadRefusals, dssRefusals, ds2Refusals, qpRefusals, qp7Refusals, fetchRefusals, openRefusals, pieceRefusals, strictRefusals, lenientRefusals}
+use Rattle.klovdrun.specs.Refusals.{payloadRefusals, dssRefusals, ds2Refusals, qpRefusals, qp7Refusals, fetchRefusals, openRefusals, pieceRefusals, strictRefusals, lenientRefusals, writeRefusals}
 
 pub payload-numbered : (f : List ℕ) (block : ℕ) → Numbered payloadRefusals (payloadPlace f block)
 unfolding payloadPlace isAmong hasAll
@@ -71,6 +73,14 @@ fetch-numbered f q size room =
     (goes-on (admission f false true) _ (wider refl (admitting f false true))
     (λ rec. asked (canFetch (rec .blocks) q size room) 12 0 refl (answered rec)))
     (λ rec. answered _)
+
+pub write-numbered : (header packets : List ℕ) (room : ℕ) → Numbered writeRefusals (writtenSize header packets room)
+unfolding writtenSize isAmong
+write-numbered header packets room =
+    asked (isHeader header) 15 0 refl
+    (asked (eqb (42 * soundIn packets) (length packets)) 16 _ refl
+    (asked (leb (sizeOf packets) limit) 17 limit refl
+    (asked (leb (sizeOf packets) room) 8 _ refl (answered _))))
 
 -- a reader's calls, at any state
 pub open-numbered : (kind : ℕ) → Numbered openRefusals (openSaid kind)

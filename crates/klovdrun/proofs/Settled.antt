@@ -17,6 +17,8 @@ use Rattle.qp7.specs.Outcome.{demuxedSays as qp7Says}
 use Rattle.qp7.proofs.Outcome.{only-outcome as qp7-only}
 use Rattle.frames.specs.Fetch.{fetchedSays}
 use Rattle.frames.proofs.Theorems.{only-filled}
+use Rattle.writing.specs.Outcome.{writtenSays}
+use Rattle.writing.proofs.Theorems.{only-outcome as only-written}
 use Rattle.reader.specs.declared.Reader.{Reader}
 use Rattle.reader.specs.declared.Step.{Step}
 use Rattle.reader.specs.State.{Reached}
@@ -53,6 +55,8 @@ use Rattle.klovdrun.proofs.klov_show.Kinds as show
 use Rattle.klovdrun.proofs.klov_show.Reads as show-reads
 use Rattle.klovdrun.proofs.klov_tally.Kinds as tally
 use Rattle.klovdrun.proofs.klov_tally.Reads as tally-reads
+use Rattle.klovdrun.proofs.klov_write_ds2_sp.Kinds as write
+use Rattle.klovdrun.proofs.klov_write_ds2_sp.Reads as write-reads
 use Rattle.klovdrun.proofs.klov_open.Kinds as opening
 use Rattle.klovdrun.proofs.klov_open.Reads as opening-reads
 
@@ -124,6 +128,12 @@ pub klov-fetch-settled : SettledAs 2 fetch.ps fetch.r (λ κs. One) (λ κs x s.
 klov-fetch-settled κs a x y s t p q =
     let e = only-filled (p .comes) (q .comes) in
     let n = carried (λ answer. standNumbers (fetchedSays answer)) (λ i. e i .0) (p .numbers-are) (q .numbers-are) in
+    (λ i. (n i, e i .1))
+
+pub klov-write-ds2-sp-settled : SettledAs 3 write.ps write.r (λ κs. One) (λ κs x s. (x, now (s .1 .1 .0))) write-reads.Post
+klov-write-ds2-sp-settled κs a x y s t p q =
+    let e = only-written (p .comes) (q .comes) in
+    let n = carried (λ answer. oneNumber (writtenSays answer)) (λ i. e i .0) (p .numbers-are) (q .numbers-are) in
     (λ i. (n i, e i .1))
 
 -- open: the numbers and the reader beside them

@@ -22,6 +22,8 @@ use Rattle.qp7.specs.Outcome.{width as entryWidth, inTables, answered as record
 use Rattle.qp7.proofs.Theorems.{refused-changes-nothing as qp7-refused}
 use Rattle.frames.specs.Fetch.{fetchFrom, standing}
 use Rattle.frames.proofs.Theorems.{refused-fill-changes-nothing}
+use Rattle.writing.specs.Outcome.{writtenSize}
+use Rattle.writing.proofs.Theorems.{refused-changes-nothing as write-refused}
 use Rattle.tally.specs.declared.Figures.{Figures}
 use Rattle.tally.specs.Tallies.{tallied, tallyRefusals}
 use Rattle.tally.proofs.Theorems.{refused-by}
@@ -35,9 +37,9 @@ use Rattle.numbers.specs.declared.Answer.{Answer}
 use Rattle.klovdrun.specs.declared.Opened.{Opened}
 use Rattle.numbers.specs.declared.Tallied.{Tallied}
 use Rattle.numbers.specs.Numbers.{four, numbersOr, oneNumber, qpNumbers, qp7Numbers, whereNumber, placeNumber, standNumbers, owingNumbers, tallyNumbers}
-use Rattle.klovdrun.specs.Wrapped.{SpCarries, QpCarries, Qp7Carries, FillCarries, stepTo, OpenCarries, Advances, Tells}
-use Rattle.klovdrun.specs.Refusals.{payloadRefusals, dssRefusals, ds2Refusals, qpRefusals, qp7Refusals, fetchRefusals, openRefusals, pieceRefusals, strictRefusals, lenientRefusals}
-use Rattle.klovdrun.proofs.Refusing.{payload-numbered, dss-numbered, ds2-numbered, packets-numbered, segments-numbered, records-numbered, fetch-numbered, open-numbered, piece-numbered, strict-numbered, lenient-numbered}
+use Rattle.klovdrun.specs.Wrapped.{SpCarries, QpCarries, Qp7Carries, FillCarries, WriteCarries, stepTo, OpenCarries, Advances, Tells}
+use Rattle.klovdrun.specs.Refusals.{payloadRefusals, dssRefusals, ds2Refusals, qpRefusals, qp7Refusals, fetchRefusals, openRefusals, pieceRefusals, strictRefusals, lenientRefusals, writeRefusals}
+use Rattle.klovdrun.proofs.Refusing.{payload-numbered, dss-numbered, ds2-numbered, packets-numbered, segments-numbered, records-numbered, fetch-numbered, open-numbered, piece-numbered, strict-numbered, lenient-numbered, write-numbered}
 
 tells : {A : Type 0} {numbers : List ℕ} (first second : A → ℕ) (other : ℕ) (said : Said A) → isAmong numbers 0 ≡ false → Numbered numbers said
     → {r : Answer} → r ≡ numbersOr first second other said → Tells numbers first second other said r
@@ -148,6 +150,19 @@ module _ {f scratch scratch′ : List ℕ} {q size : ℕ} {r : Answer} (c : Fill
   fetch-refused-changes-nothing some =
       let why = klov-show-tells f q size (length scratch) fetch-shows .above some in
       refused-fill-changes-nothing f q size scratch scratch′ (c .answer) (c .comes) (why .0) (c .comes .answer-is ∙ why .1)
+
+-- `klov_write_ds2_sp`
+module _ {header packets out out′ : List ℕ} {r : Answer} (c : WriteCarries header packets out out′ r) where
+  pub write-tells : Tells writeRefusals (λ n. n) (λ n. 0) 0 (writtenSize header packets (length out)) r
+  unfolding isAmong
+  write-tells =
+      tells (λ n. n) (λ n. 0) 0 (writtenSize header packets (length out)) refl (write-numbered header packets (length out))
+      (c .numbers-are ∙ ap oneNumber (c .comes .answer-is))
+
+  pub write-refused-changes-nothing : 0 < r .refusal → out′ ≡ out
+  write-refused-changes-nothing some =
+      let why = write-tells .above some in
+      write-refused header packets out out′ (c .answer) (c .comes) (why .0) (c .comes .answer-is ∙ why .1)
 
 -- `klov_open`: a fresh reader owes nothing
 pub open-tells : (kind : ℕ) {r : Opened} → OpenCarries kind r → Tells openRefusals (λ n. n) (λ n. 0) 0 (openSaid kind) (r .answer)

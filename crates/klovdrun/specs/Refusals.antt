@@ -42,3 +42,7 @@ strictRefusals = 6 ∷ 3 ∷ 13 ∷ 14 ∷ []
 -- `klov_lenient_end`
 abbrev pub lenientRefusals : List ℕ
 lenientRefusals = 3 ∷ []
+
+-- `klov_write_ds2_sp`
+abbrev pub writeRefusals : List ℕ
+writeRefusals = 15 ∷ 16 ∷ 17 ∷ 8 ∷ []

@@ -14,6 +14,7 @@ use Rattle.qp.specs.Outcome.{Demuxes as QpDemuxes, demuxedSays as qpSays}
 use Rattle.qp7.specs.Walk.{Gathered}
 use Rattle.qp7.specs.Outcome.{Demuxes as Qp7Demuxes, demuxedSays as qp7Says}
 use Rattle.frames.specs.Fetch.{Fills, fetchedSays}
+use Rattle.writing.specs.Outcome.{Writes, writtenSays}
 use Rattle.reader.specs.declared.Reader.{Reader}
 use Rattle.reader.specs.declared.Step.{Step}
 use Rattle.reader.specs.Calls.{Opens}
@@ -43,6 +44,11 @@ Qp7Carries reading records records′ segments segments′ r =
 abbrev pub FillCarries : List ℕ → ℕ → ℕ → List ℕ → List ℕ → Answer → Type 0
 FillCarries f q size scratch scratch′ r =
     Carries (Fills f q size scratch scratch′) (λ answer. standNumbers (fetchedSays answer)) r
+
+-- a file that is written
+abbrev pub WriteCarries : List ℕ → List ℕ → List ℕ → List ℕ → Answer → Type 0
+WriteCarries header packets out out′ r =
+    Carries (Writes header packets out out′) (λ answer. oneNumber (writtenSays answer)) r
 
 -- a reader's call that answered so and handed this reader back
 abbrev pub stepTo : Reader → Demuxed → Step

@@ -22,7 +22,7 @@ ghost use Rattle.reader.specs.State.{Reached};
 ghost use Rattle.reader.specs.History.{PieceCall, StrictCall, LenientCall};
 ghost use Rattle.numbers.specs.Numbers.{formatNumber, truthNumber, oneNumber, foundNumbers, standNumbers, tallyNumbers};
 ghost use Rattle.klovdrun.specs.Version.{version};
-ghost use Rattle.klovdrun.specs.Wrapped.{SpCarries, QpCarries, Qp7Carries, FillCarries, OpenCarries, Advances};
+ghost use Rattle.klovdrun.specs.Wrapped.{SpCarries, QpCarries, Qp7Carries, FillCarries, WriteCarries, OpenCarries, Advances};
 
 // The version of the boundary.
 const VERSION: u64 = 1;
@@ -211,4 +211,13 @@ pub extern "C" fn klov_lenient_end(reader: &mut Reader, out: &mut [u8], counts: 
     let step = (*reader).lenient_end(out, counts);
     *reader = step.reader;
     numbers::of_step(step)
+}
+
+// First: bytes of the file.
+#[no_mangle]
+pub extern "C" fn klov_write_ds2_sp(header: &[u8], packets: &[u8], out: &mut [u8]) -> Answer
+    ensures { λ r. ⌜ WriteCarries (now (header .entry)) (now (packets .entry)) (now (out .entry)) (now (out .exit)) r ⌝ }
+{
+    let answer = writing::write_ds2_sp(header, packets, out);
+    numbers::of_written(answer)
 }

@@ -42,7 +42,7 @@ numbersOr first second other (refusal why) = four (why .number) (why .beside) 0 
 abbrev pub numbers : {A : Type 0} → (A → ℕ) → (A → ℕ) → Said A → Answer
 numbers first second said = numbersOr first second 0 said
 
--- one number: packets, or a place
+-- one number: packets, a place, or bytes
 abbrev pub oneNumber : Said ℕ → Answer
 oneNumber said = numbers (λ n. n) (λ n. 0) said
 

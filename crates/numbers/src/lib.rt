@@ -8,6 +8,7 @@ use refusals::Refusal;
 use tally::Figures;
 use tally::FileKind;
 use whole::PayloadAnswer;
+use writing::Written;
 ghost use mathlib.Core.Path.{_≡_};
 ghost use Rattle.refusals.specs.Said.{answers, refusal};
 ghost use Rattle.whole.specs.Payload.{payloadSays};
@@ -16,6 +17,7 @@ ghost use Rattle.qp.specs.Outcome.{demuxedSays as qpSays};
 ghost use Rattle.qp7.specs.Outcome.{demuxedSays as qp7Says};
 ghost use Rattle.frames.specs.Fetch.{fetchedSays};
 ghost use Rattle.tally.specs.Tallies.{talliedSays};
+ghost use Rattle.writing.specs.Outcome.{writtenSays};
 ghost use Rattle.reader.specs.State.{Reached};
 ghost use Rattle.reader.specs.History.{OwedCall};
 ghost use Rattle.numbers.specs.Numbers.{formatNumber, truthNumber, four, oneNumber, qpNumbers, qp7Numbers, foundNumbers, standNumbers, owingNumbers, kindNumber, tallyNumbers};
@@ -136,6 +138,15 @@ pub fn of_stand(answer: Fetched) -> Answer
         Fetched::InFile(place) => answered(0, place.0),
         Fetched::InScratch => answered(1, 0),
         Fetched::Refused(why) => refused(why, 0),
+    }
+}
+
+pub fn of_written(answer: Written) -> Answer
+    ensures { λ r. ⌜ r ≡ oneNumber (writtenSays answer) ⌝ }
+{
+    match answer {
+        Written::Bytes(size) => answered(size, 0),
+        Written::Refused(why) => refused(why, 0),
     }
 }
 

@@ -81,7 +81,7 @@ impl Refusal {
         }
     }
 
-    // The packets or records are so many, and there is room for fewer.
+    // The packets, records or bytes are so many, and there is room for fewer.
     pub fn room(needed: usize) -> Self
         ensures { λ r. ⌜ r ≡ numbered 8 needed ⌝ }
     {
@@ -147,6 +147,36 @@ impl Refusal {
         Self {
             number: 14,
             beside: frames as u64,
+        }
+    }
+
+    // The header that was supplied has not its size, or begins otherwise.
+    pub fn supplied() -> Self
+        ensures { λ r. ⌜ r ≡ numbered 15 0 ⌝ }
+    {
+        Self {
+            number: 15,
+            beside: 0,
+        }
+    }
+
+    // The packet of this number is cut short, or its byte 40 is not 0.
+    pub fn packet(number: usize) -> Self
+        ensures { λ r. ⌜ r ≡ numbered 16 number ⌝ }
+    {
+        Self {
+            number: 16,
+            beside: number as u64,
+        }
+    }
+
+    // The file would be over this limit.
+    pub fn too_long(limit: usize) -> Self
+        ensures { λ r. ⌜ r ≡ numbered 17 limit ⌝ }
+    {
+        Self {
+            number: 17,
+            beside: limit as u64,
         }
     }
 }

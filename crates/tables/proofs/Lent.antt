@@ -106,6 +106,21 @@ leaves-to {d} {e} {a} {m} {n} {f} q w = subst (λ (i : ℕ). Leaves d a i f e) q
 pub leaves-at : {d e : List ℕ} {n : ℕ} {f : ℕ → ℕ} → Leaves d 0 n f e → (k : ℕ) → k < n → getD e k 0 ≡ f k
 leaves-at {d} {e} w k h = let front : k ≡ 0 + k = omega arith in ap (λ (j : ℕ). getD e j 0) front ∙ w .new k h
 
+-- a part that is written again
+pub leaves-twice : {d e e′ : List ℕ} {a n : ℕ} {f g : ℕ → ℕ} → Leaves d a n f e → Leaves e a n g e′ → Leaves d a n g e′
+leaves-twice w v =
+    record {
+      long = v .long ∙ w .long;
+      new = v .new;
+      low = λ k h. v .low k h ∙ w .low k h;
+      high = λ k h. v .high k h ∙ w .high k h;
+    }
+
+-- what stands outside the part
+pub leaves-kept : {d e : List ℕ} {a n : ℕ} {f : ℕ → ℕ} → Leaves d a n f e → (x : ℕ) → (a ≤ x → x < a + n → ⊥) → getD e x 0 ≡ getD d x 0
+leaves-kept {d} {e} {a} {n} w x outside =
+    by-order x a (λ low. w .low x low) (λ from. by-order x (a + n) (λ inside. absurd (outside from inside)) (λ high. w .high x high))
+
 -- a list that is written to its end is the function's table
 pub leaves-table : (n : ℕ) {d e : List ℕ} {f : ℕ → ℕ} → length d ≡ n → Leaves d 0 n f e → e ≡ table n f
 leaves-table n {d} {e} {f} long w = is-table n f e (w .long ∙ long) (λ k h. leaves-at w k h)

@@ -1,0 +1,71 @@
+-- What a host has that writes a file: numbers that say so, a file that reads back, and one that is complete as announced.
+-- Assumes nothing.
+use Prim.Native.Nat.{ℕ, _≤_, _<_}
+use mathlib.Core.Path.{_≡_, refl, sym, ap, _∙_}
+use mathlib.Core.List.{List}
+use native.Mathlib.Omega.{arith}
+use lib.ListN.{length, take, length-take}
+use Rattle.tables.proofs.Cases.{never}
+use Rattle.blocks.specs.Places.{limit}
+use Rattle.refusals.specs.Said.{answers}
+use Rattle.refusals.proofs.Said.{for-the-answer}
+use Rattle.packets.specs.Packet.{readSize}
+use Rattle.sp.specs.Readings.{Reading, total, CompleteAt}
+use Rattle.sp.proofs.Theorems.{whole-exactly}
+use Rattle.writing.specs.Outcome.{writtenSays}
+use Rattle.writing.specs.ReadBack.{ReadsBack}
+use Rattle.writing.proofs.Theorems.{accepted, written-is-sp, written-reads-back}
+use Rattle.tally.specs.Tallies.{tallied}
+use Rattle.reader.specs.State.{readingBy}
+use Rattle.reader.specs.Agreement.{Agrees}
+use Rattle.reader.proofs.Agreeing.{agrees-is, ds2-start}
+use Rattle.numbers.specs.declared.Answer.{Answer}
+use Rattle.numbers.specs.declared.Tallied.{Tallied}
+use Rattle.numbers.specs.Numbers.{tallyNumbers}
+use Rattle.klovdrun.specs.Wrapped.{WriteCarries}
+use Rattle.klovdrun.specs.Announced.{AsAnnounced}
+use Rattle.klovdrun.proofs.Theorems.{write-tells}
+use Rattle.klovdrun.proofs.Announced.{tallied-as}
+
+-- a host's call of `klov_write_ds2_sp` that answered
+module _ {header packets out out′ : List ℕ} {r : Answer} (c : WriteCarries header packets out out′ r) (answered : r .refusal ≡ 0) where
+  says : writtenSays (c .answer) ≡ answers (r .first)
+  says =
+      let t = write-tells c .zero answered in
+      c .comes .answer-is ∙ t .1 ∙ ap answers (sym (t .3))
+
+  -- The file is the first bytes of the output, as many as first says; read whole, it has the packets.
+  pub told-reads-back : (reading : Reading) × ReadsBack packets (take (r .first) out′) reading
+  told-reads-back = written-reads-back header packets out out′ (c .answer) (c .comes) (r .first) says
+
+  -- A reader of DS2 takes it: it is one of those files that are read in pieces as they are whole.
+  pub written-agrees : Agrees 0 (take (r .first) out′)
+  written-agrees =
+      let w = written-is-sp header packets out out′ (c .answer) (c .comes) (r .first) says in
+      record {
+        full = omega (arith, w .3, ds2-start 0 refl);
+        dss = λ dss. absurd (never dss refl);
+        ds2 = λ ds2. (w .0, w .1, omega (arith, w .2));
+      }
+
+  -- And the numbers of its tally say that it is complete as announced.
+  pub written-complete : {told : Tallied} → told ≡ tallyNumbers (tallied (take (r .first) out′)) → AsAnnounced told (length (take (r .first) out′))
+  written-complete is =
+      let w = written-is-sp header packets out out′ (c .answer) (c .comes) (r .first) says in
+      tallied-as 0 (take (r .first) out′) small written-agrees is complete (omega (arith, w .3, ds2-start 0 refl))
+    where
+      small : length (take (r .first) out′) ≤ limit
+      small =
+          let size = accepted header packets (length out) (r .first) (sym (c .comes .answer-is) ∙ says) in
+          omega (arith, length-take (r .first) out′, size .size-is, size .small)
+
+      back : ReadsBack packets (take (r .first) out′) (told-reads-back .0)
+      back = told-reads-back .1
+
+      complete : (k : ℕ) → k < total (readingBy 0 (take (r .first) out′)) → CompleteAt (readingBy 0 (take (r .first) out′)) k
+      complete =
+          for-the-answer (λ x. (k : ℕ) → k < total x → CompleteAt x k)
+          (sym (back .is-read) ∙ agrees-is 0 (take (r .first) out′) small written-agrees)
+          (λ k h.
+          let reading = told-reads-back .0 in
+          whole-exactly reading k .2 (whole-exactly reading k .1 (back .full k h ∙ ap readSize (sym (back .swapped k h)))))

@@ -1,0 +1,7 @@
+-- The definitions of this crate, a file for each idea. They rest on those of the crates below.
+pub mod Reads
+pub mod Laying
+pub mod Outcome
+pub mod ReadBack
+-- what only contracts of inner functions speak of
+pub mod Inner
