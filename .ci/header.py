@@ -18,7 +18,7 @@ CONSTANTS = {"LIMIT": "blocks::LIMIT", "PACKET": "packets::PACKET", "FRAME": "fr
              "BLOCK": "blocks::BLOCK", "HOLD": "hold::HOLD", "QP_WORDS": "qp::ENTRY", "QP7_WORDS": "qp7::ENTRY"}
 IN_HEADER = ("LIMIT", "PACKET", "FRAME", "BLOCK", "PAYLOAD", "QP_WORDS", "QP7_WORDS")
 IN_RUST = ("LIMIT", "PACKET", "FRAME", "PAYLOAD", "BLOCK", "QP_WORDS", "QP7_WORDS")
-BESIDE = {2: "LIMIT", 7: "HOLD"}  # refusals whose number beside is a constant
+BESIDE = {2: "LIMIT", 7: "HOLD", 17: "LIMIT"}  # refusals whose number beside is a constant
 LISTS = ("crates/klovdrun/specs/Refusals.antt", "crates/tally/specs/Tallies.antt")  # where the exports' lists of refusals are defined
 wrong = []
 

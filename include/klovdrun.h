@@ -1,4 +1,5 @@
-/* klovdrun: a demuxer for dictation recordings, DSS and DS2, over the archive libklovdrun.a (x86-64, System V), for C99 and C++.
+/* klovdrun: a demuxer for dictation recordings, DSS and DS2, and a writer of DS2 SP files, over the archive libklovdrun.a (x86-64, System V),
+ * for C99 and C++.
  * docs/FORMAT.md describes the recordings; host/c/intake.c is a whole program over this header.
  *
  * LENT MEMORY. A slice is a pointer and a length in elements. No call keeps a pointer, allocates, or touches anything but what is lent to it;
@@ -56,7 +57,7 @@
  *    5  QP7: a record runs past the payload stream                                         its place in the payload stream
  *    6  a piece after the end or while draining; the strict end while draining             0
  *    7  a piece: what is unread would not fit in the reader's hold                         12288
- *    8  packets or records exceed the room                                                 how many are needed
+ *    8  packets, records or bytes exceed the room                                          how many are needed
  *    9  segments exceed their table                                                        how many are needed
  *   10  open: a kind other than 0, 2 and 3                                                 that kind
  *   11  a DS2 file that is read otherwise than by this call                                its type
@@ -64,6 +65,9 @@
  *       payload: no such whole block                                                       0
  *   13  the strict end inside a block                                                      how many bytes of it there are
  *   14  the strict end with frames owed                                                    how many
+ *   15  write: a header not of 1,536 bytes, or that does not begin `\x01ds2` or `\x03ds2`  0
+ *   16  write: a packet that is cut short, or whose byte 40 is not 0                       its number, from 0
+ *   17  write: the file would be over the limit                                            268435456
  * Where several hold, the first in the call's own list is given.
  */
 #ifndef KLOVDRUN_H
@@ -78,7 +82,7 @@ extern "C" {
 
 /* The version of all that is said here. It goes up with every change of an answer or of a layout; klov_version tells the archive's. */
 #define KLOV_VERSION 1u
-/* The longest input, in bytes. */
+/* The longest input, and the longest file that is written, in bytes. */
 #define KLOV_LIMIT 268435456u
 /* Bytes of a packet, of a QP frame (and so of a scratch), of a block, and of a block's payload. */
 #define KLOV_PACKET 42u
@@ -122,7 +126,10 @@ enum {
     KLOV_REFUSED_TYPE = 11,
     KLOV_REFUSED_PLACE = 12,
     KLOV_REFUSED_CUT_BLOCK = 13,
-    KLOV_REFUSED_OWING = 14
+    KLOV_REFUSED_OWING = 14,
+    KLOV_REFUSED_WRITER_HEADER = 15,
+    KLOV_REFUSED_PACKET = 16,
+    KLOV_REFUSED_FILE_LIMIT = 17
 };
 
 /* What klov_detect_format answers. */
@@ -241,6 +248,13 @@ KLOV_MUST_USE klov_answer klov_strict_end(klov_reader *reader);
  * is room for. It is asked again while second is above 0. Refusal 3. */
 KLOV_MUST_USE klov_answer klov_lenient_end(klov_reader *reader, uint8_t *out, size_t out_len, uint8_t *counts, size_t counts_len);
 
+/* A DS2 SP file: the header as it is, KLOV_DS2_START bytes that begin `\x01ds2` or `\x03ds2`, and blocks of the packets, which are joined,
+ * KLOV_PACKET bytes each, byte 40 of each 0, as the SP calls hand them out. Read whole it gives the same packets, each with its full count,
+ * and it is complete as announced: what was zeros that nobody recorded is bytes of the file then. first: bytes of the file, which are the
+ * first of `out`; what lies past them is as it was. With no room, out_len 0, a call says by 8 how many bytes the file has. Refusals 15, 16,
+ * 17, 8. */
+KLOV_MUST_USE klov_answer klov_write_ds2_sp(const uint8_t *header, size_t header_len, const uint8_t *packets, size_t packets_len, uint8_t *out, size_t out_len);
+
 /* What follows is no part of the archive. */
 
 /* The kind of reader that takes a recording which begins with these bytes, of which four are enough; KLOV_READ_WHOLE if none does. */
@@ -272,13 +286,16 @@ KLOV_MUST_USE static inline const char *klov_refusal_text(uint64_t number)
         "the record at place %llu of the payload stream runs past the stream's end",
         "the reader has ended, or is being drained",
         "what is unread would not fit in the reader's hold of %llu bytes",
-        "the room is too small: %llu packets or records need it",
+        "the room is too small for %llu packets, records or bytes",
         "the table is too small: %llu segments need it",
         "there is no reader of kind %llu",
         "this is a DS2 recording of type %llu, which another call reads",
         "the recording has no such frame or block, or the scratch is too small",
         "the recording ends inside a block, of which %llu bytes are there",
         "the recording has ended, and %llu of the frames that it announces are owed",
+        "the header is not one of 1,536 bytes that begins a DS2 recording with first byte 1 or 3",
+        "packet %llu is cut short, or its byte 40 is not 0",
+        "the file would be over the limit of %llu bytes",
     };
     return number < sizeof texts / sizeof texts[0] ? texts[number] : "a refusal that is not known here, with %llu beside it";
 }

@@ -28,6 +28,9 @@ impl Refusal {
     pub const PLACE: u64 = 12;
     pub const CUT_BLOCK: u64 = 13;
     pub const OWING: u64 = 14;
+    pub const WRITER_HEADER: u64 = 15;
+    pub const PACKET: u64 = 16;
+    pub const FILE_LIMIT: u64 = 17;
 }
 
 /// What every call that can refuse answers.
@@ -44,13 +47,16 @@ impl fmt::Display for Refusal {
             Refusal::CUT_RECORD => write!(to, "the record at place {beside} of the payload stream runs past the stream's end"),
             Refusal::ENDED => write!(to, "the reader has ended, or is being drained"),
             Refusal::HOLD => write!(to, "what is unread would not fit in the reader's hold of {beside} bytes"),
-            Refusal::ROOM => write!(to, "the room is too small: {beside} packets or records need it"),
+            Refusal::ROOM => write!(to, "the room is too small for {beside} packets, records or bytes"),
             Refusal::TABLE => write!(to, "the table is too small: {beside} segments need it"),
             Refusal::KIND => write!(to, "there is no reader of kind {beside}"),
             Refusal::TYPE => write!(to, "this is a DS2 recording of type {beside}, which another call reads"),
             Refusal::PLACE => write!(to, "the recording has no such frame or block, or the scratch is too small"),
             Refusal::CUT_BLOCK => write!(to, "the recording ends inside a block, of which {beside} bytes are there"),
             Refusal::OWING => write!(to, "the recording has ended, and {beside} of the frames that it announces are owed"),
+            Refusal::WRITER_HEADER => write!(to, "the header is not one of 1,536 bytes that begins a DS2 recording with first byte 1 or 3"),
+            Refusal::PACKET => write!(to, "packet {beside} is cut short, or its byte 40 is not 0"),
+            Refusal::FILE_LIMIT => write!(to, "the file would be over the limit of {beside} bytes"),
             other => write!(to, "refusal {other}, which is not known here, with {beside}"),
         }
     }

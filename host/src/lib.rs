@@ -1,10 +1,10 @@
-//! Klovdrun for Rust hosts: a demuxer for dictation recordings, DSS and DS2, over the archive `libklovdrun.a`.
+//! Klovdrun for Rust hosts: a demuxer for dictation recordings, DSS and DS2, and a writer of DS2 SP files, over the archive `libklovdrun.a`.
 //! It rests on `include/klovdrun.h`; all that crosses the boundary is in the private module `raw`.
 //!
 //! The calls of [`demux`] have the names and signatures of those in dss-codec's module of that name, so that a host can change the one
 //! for the other. What is added stands beside it: [`Packets`] with the count of file bytes of each packet, [`Reader`] for pieces without an allocation,
-//! [`places`] and [`frames`] for bytes that stay in the file, [`tally`](tally()) for a file in numbers, and [`ReadSizes`], which
-//! tells short packets.
+//! [`places`] and [`frames`] for bytes that stay in the file, [`tally`](tally()) for a file in numbers, [`ReadSizes`], which
+//! tells short packets, and [`mux`], which makes a DS2 SP file of packets.
 //! Every call answers, or refuses by an [`error::Refusal`]; a refused call changes nothing.
 //!
 //! # Complete as announced
@@ -24,6 +24,7 @@ compile_error!("libklovdrun.a is for x86-64 with the System V calling convention
 pub mod demux;
 pub mod error;
 pub mod frames;
+pub mod mux;
 mod packets;
 pub mod places;
 mod raw;
@@ -46,7 +47,7 @@ pub const VERSION: u64 = raw::VERSION;
 pub fn archive_version() -> u64 {
     raw::version()
 }
-/// The longest input in bytes, whole or in pieces.
+/// The longest input in bytes, whole or in pieces, and the longest file that is written.
 pub const LIMIT: usize = 268_435_456;
 /// Bytes of a packet.
 pub const PACKET: usize = 42;

@@ -119,6 +119,14 @@ extern "C" {
     pub(crate) fn klov_strict_end(reader: *mut Reader) -> Answer;
     pub(crate) fn klov_lenient_end(reader: *mut Reader, out: *mut u8, out_len: usize, counts: *mut u8, counts_len: usize)
         -> Answer;
+    pub(crate) fn klov_write_ds2_sp(
+        header: *const u8,
+        header_len: usize,
+        packets: *const u8,
+        packets_len: usize,
+        out: *mut u8,
+        out_len: usize,
+    ) -> Answer;
 }
 
 /// The archive's version.
@@ -258,4 +266,10 @@ pub(crate) fn strict_end(reader: &mut Reader) -> (Result<usize>, usize) {
 pub(crate) fn lenient_end(reader: &mut Reader, out: &mut [u8], counts: &mut [u8]) -> (Result<usize>, usize) {
     checked();
     unsafe { klov_lenient_end(reader, out.as_mut_ptr(), out.len(), counts.as_mut_ptr(), counts.len()) }.step()
+}
+
+/// How many bytes the file has.
+pub(crate) fn write_ds2_sp(header: &[u8], packets: &[u8], out: &mut [u8]) -> Result<usize> {
+    checked();
+    unsafe { klov_write_ds2_sp(header.as_ptr(), header.len(), packets.as_ptr(), packets.len(), out.as_mut_ptr(), out.len()) }.first()
 }
