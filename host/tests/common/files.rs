@@ -344,3 +344,17 @@ pub fn file(magic: &[u8; 4], start: usize, headers: &[[u8; 6]], payload: fn(usiz
     }
     file
 }
+
+/// So many packets, joined: any bytes, but that byte 40 of each is 0.
+pub fn packets(number: usize, dice: &mut Dice) -> Vec<u8> {
+    let mut packets: Vec<u8> = (0..42 * number).map(|_| dice.byte()).collect();
+    packets.iter_mut().skip(40).step_by(42).for_each(|byte| *byte = 0);
+    packets
+}
+
+/// A DS2 header with that first byte: any bytes after its magic.
+pub fn ds2_header(first: u8, dice: &mut Dice) -> Vec<u8> {
+    let mut header: Vec<u8> = (0..1536).map(|_| dice.byte()).collect();
+    header[..4].copy_from_slice(&[first, b'd', b's', b'2']);
+    header
+}

@@ -401,3 +401,48 @@ pub fn tally(file: &[u8]) -> Answer<[u64; 7]> {
     let blocks = whole_blocks(file.len(), start);
     Ok([kind as usize, start, blocks, announced(file, start), sizes.len(), short, bytes].map(|number| number as u64))
 }
+
+/// The DS2 SP file that a header and joined packets make, or why they make none. The limit is not asked for: no list here is so long.
+pub fn written(header: &[u8], packets: &[u8]) -> Answer<Vec<u8>> {
+    if header.len() != 1536 || !matches!(&header[..4], b"\x01ds2" | b"\x03ds2") {
+        return Err((15, 0));
+    }
+    let packets: Vec<&[u8]> = packets.chunks(42).collect();
+    if let Some(bad) = packets.iter().position(|packet| packet.len() < 42 || packet[40] != 0) {
+        return Err((16, bad as u64));
+    }
+    let (stream, begins) = written_stream(&packets);
+    let mut file = header.to_vec();
+    for (number, payload) in stream.chunks(506).enumerate() {
+        let inside = |&place: &usize| place / 506 == number;
+        let count = begins.iter().filter(|place| inside(place)).count() as u8;
+        file.extend_from_slice(&match begins.iter().position(inside) {
+            None => [0x0F, 0, 0, 0xFF, 0, 0xFF],
+            Some(first) => {
+                let flags = if first % 2 == 1 { 0x8F } else { 0x0F };
+                [flags, (3 + begins[first] % 506 / 2) as u8, count, 0xFF, 0, 0xFF]
+            }
+        });
+        file.extend_from_slice(payload);
+        file.resize(file.len() + 506 - payload.len(), 0);
+    }
+    Ok(file)
+}
+
+/// The reads of packets joined, every other one swapped, and where each begins.
+fn written_stream(packets: &[&[u8]]) -> (Vec<u8>, Vec<usize>) {
+    let (mut stream, mut begins) = (Vec::new(), Vec::new());
+    for (number, packet) in packets.iter().enumerate() {
+        begins.push(stream.len());
+        if number % 2 == 0 {
+            stream.extend_from_slice(&packet[..40]);
+            stream.push(packets.get(number + 1).map_or(0, |next| next[1]));
+            stream.push(packet[41]);
+        } else {
+            for pair in 0..20 {
+                stream.extend_from_slice(&[packet[2 * pair + 3], packet[2 * pair]]);
+            }
+        }
+    }
+    (stream, begins)
+}
