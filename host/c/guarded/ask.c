@@ -36,6 +36,7 @@ static const struct named exports[EXPORTS] = {
     [SHOW] = {"klov_show", 4, FOUR, WHOLE | BIT(12)},
     [TALLY] = {"klov_tally", 9, {"refusal", "beside", "kind", "start", "blocks", "announced", "handed", "short_count", "bytes"},
                WHOLE | BIT(4) | BIT(5)},
+    [WRITE] = {"klov_write_ds2_sp", 4, FOUR, BIT(15) | BIT(16) | BIT(17) | BIT(8)},
     [OPEN] = {"klov_open", 4, FOUR, BIT(10)},
     [PIECE] = {"klov_piece", 4, FOUR, BIT(6) | BIT(2) | BIT(7) | BIT(8)},
     [STRICT_END] = {"klov_strict_end", 4, FOUR, BIT(6) | BIT(3) | BIT(13) | BIT(14)},
@@ -111,6 +112,8 @@ static void perform_whole(const struct question *q, struct slice b, struct slice
         a = klov_fetch(file, len, q->x, q->y, b.at, b.len);
     else if (q->export == SHOW)
         a = klov_show(file, len, q->x, q->y, b.at, b.len);
+    else if (q->export == WRITE)
+        a = klov_write_ds2_sp(file, len, q->also.at, q->also.len, b.at, b.len);
     memcpy(numbers, &a, sizeof a);
 }
 
@@ -196,7 +199,10 @@ void expect(const struct question *q, const struct answer *want)
     static klov_reader before;
     static const uint8_t zeros[PAGE];
     uint64_t numbers[NUMBERS] = {0};
-    struct slice b = q->export == SHOW ? lend_copy(&scratch_area, zeros, q->b_len) : lend_canary(&b_area, q->b_len);
+    bool is_placed = q->placed.len > 0;
+    struct slice b = is_placed           ? q->placed
+                     : q->export == SHOW ? lend_copy(&scratch_area, zeros, q->b_len)
+                                         : lend_canary(&b_area, q->b_len);
     struct slice c = lend_canary(&c_area, q->c_len);
     bool advances = q->reader != NULL && q->export != OPEN;
     if (advances)
@@ -206,7 +212,7 @@ void expect(const struct question *q, const struct answer *want)
         return;
     }
     check_answer(q, want, numbers);
-    if (q->export != SHOW)
+    if (q->export != SHOW && !is_placed)
         check_canary("first lent slice", &b_area, b, want->b.at, want->b.len);
     check_canary("second lent slice", &c_area, c, want->c.at, want->c.len);
     if (advances)

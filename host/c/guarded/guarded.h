@@ -45,15 +45,18 @@ void check_canary(const char *what, const struct area *a, struct slice s, const 
 
 enum export {
     DETECT_FORMAT, DETECT_START, DETECT_TYPE, IS_HEADER, PAYLOAD, DEMUX_DSS, DEMUX_DS2_SP, DEMUX_QP, DEMUX_QP7, FRAME_OF, FETCH,
-    SHOW, TALLY, OPEN, PIECE, STRICT_END, LENIENT_END, EXPORTS
+    SHOW, TALLY, WRITE, OPEN, PIECE, STRICT_END, LENIENT_END, EXPORTS
 };
 
-/* The arguments of a call. `in` is lent to read; `b` and `c` are the other slices, by their lengths in bytes, and are placed
- * by the asking. `x`, `y` and `z` are numbers, in the call's order. For an opening `in` is where the answer is to stand, if it
- * is given. */
+/* The arguments of a call. `in` is lent to read, and `also` is, by a call that writes a file: its packets. `b` and `c` are the
+ * other slices, by their lengths in bytes, and are placed by the asking; `b` stands where `placed` says, if it is given, and is
+ * then looked at by the asker. `x`, `y` and `z` are numbers, in the call's order. For an opening `in` is where the answer is to
+ * stand, if it is given. */
 struct question {
     enum export export;
     struct slice in;
+    struct slice also;
+    struct slice placed;
     size_t b_len;
     size_t c_len;
     uint64_t x, y, z;
@@ -77,7 +80,7 @@ void check_number(const char *what, uint64_t expected, uint64_t got);
 void expect(const struct question *q, const struct answer *want);
 void check_all_seen(void);
 
-/* ---- model.c: detection, what is asked first, payload, fetch, frames ---- */
+/* ---- model.c: detection, what is asked first, payload, fetch, frames, a file of packets ---- */
 
 struct file {
     const uint8_t *at;
@@ -104,6 +107,8 @@ struct answer answered(uint64_t first, uint64_t second);
 struct answer model_payload(struct file f, uint64_t block);
 struct answer model_frame(uint64_t start, uint64_t length, uint64_t k);
 struct answer model_fetch(struct file f, uint64_t place, uint64_t size, uint64_t scratch, uint8_t *bytes);
+void model_block(struct file packets, uint64_t block, uint8_t *to);
+struct answer model_write(struct file header, struct file packets, uint64_t room, uint8_t *out);
 
 /* ---- readings.c: packets, segments, records, the tally, a reader ---- */
 
@@ -165,6 +170,7 @@ void expect_strict(struct modelled *m, klov_reader *r);
 void expect_lenient(struct modelled *m, klov_reader *r, uint64_t out_len, uint64_t counts_len);
 klov_reader *expect_open(uint64_t kind);
 void edges(void);
+void writings(void);
 void largest(void);
 
 /* Where the model writes what must come. */

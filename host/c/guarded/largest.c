@@ -1,10 +1,13 @@
 /* The largest sizes: files of exactly the limit, which begin and end at inaccessible pages at once, and of one byte more,
- * whole and in a few huge pieces. Most of a file is zero pages that are never touched; only the last test fills one. Rests on
- * whole.c and pieces.c. */
+ * whole and in a few huge pieces; the longest list of packets, and one packet more. Most of a file is zero pages that are never
+ * touched; only the last tests fill one. Rests on whole.c and pieces.c. */
 #include "guarded.h"
 
 #include <stdio.h>
 #include <string.h>
+
+/* As many packets as a file of the limit has. */
+enum { MOST_PACKETS = 6470444 };
 
 static struct area big;
 
@@ -124,6 +127,57 @@ static void fill_all(void)
     area_allow(&big, 0, big.size, false);
 }
 
+/* Packets that end at an inaccessible page: zeros, but for some at the front, in the middle and at the end. */
+static struct slice many_packets(const struct area *many, uint64_t n)
+{
+    struct slice packets = {many->view + many->size - PACKET * n, PACKET * n};
+    const uint64_t from[] = {0, n / 2, n - 40};
+    area_allow(many, 0, many->size, true);
+    for (size_t i = 0; i < 3; i++)
+        for (size_t k = PACKET * from[i]; k < PACKET * (from[i] + 40); k++)
+            packets.at[k] = k % PACKET == 40 ? 0 : (uint8_t)draw(256);
+    area_allow(many, 0, many->size, false);
+    return packets;
+}
+
+/* The longest file, over what a test before has left there; and one packet more, for which no room is enough. */
+static void longest_list(void)
+{
+    static uint8_t before[2][PAGE];
+    uint8_t header[DS2_START] = "\3ds2 and zeros", block[BLOCK];
+    struct area many = area_reserved(PACKET * (size_t)(MOST_PACKETS + 1));
+    struct question q = {.export = WRITE, .in = lend_copy(&header_area, header, DS2_START), .b_len = PAGE};
+    about("packets written, too many,", MOST_PACKETS + 1);
+    q.also = many_packets(&many, MOST_PACKETS + 1);
+    struct answer want = refused(17, LIMIT);
+    expect(&q, &want);
+    about("packets written, the most,", MOST_PACKETS);
+    struct file packets = {many_packets(&many, MOST_PACKETS).at, PACKET * (size_t)MOST_PACKETS};
+    q.also = (struct slice){(uint8_t *)packets.at, packets.len};
+    area_allow(&big, 0, LIMIT, true);
+    memcpy(before[0], big.view, PAGE);
+    memcpy(before[1], big.view + LIMIT - PAGE, PAGE);
+    q.placed = (struct slice){big.view, LIMIT - 1};
+    want = refused(8, LIMIT);
+    expect(&q, &want);
+    check_number("what was there at the front", 0, memcmp(before[0], big.view, PAGE) != 0);
+    check_number("what was there at the end", 0, memcmp(before[1], big.view + LIMIT - PAGE, PAGE) != 0);
+    q.placed.len = LIMIT;
+    want = answered(LIMIT, 0);
+    expect(&q, &want);
+    check_number("header", 0, memcmp(big.view, header, DS2_START) != 0);
+    bool same = true;
+    for (uint64_t i = 0; same && i < (LIMIT - DS2_START) / BLOCK; i++) {
+        model_block(packets, i, block);
+        same = memcmp(big.view + DS2_START + BLOCK * i, block, BLOCK) == 0;
+        check_number("whether a block is the model's", 1, same);
+    }
+    area_allow(&big, 0, LIMIT, false);
+    want = (struct answer){.numbers = {0, 0, KLOV_DS2_SP, DS2_START, (LIMIT - DS2_START) / BLOCK, MOST_PACKETS, MOST_PACKETS, 0,
+                                       41ull * MOST_PACKETS}};
+    expect(&(struct question){.export = TALLY, .in = {big.view, LIMIT}}, &want);
+}
+
 void largest(void)
 {
     static const size_t sparse[] = {0, 5 * PAGE, 40000 * PAGE, 40001 * PAGE, LIMIT}, single[] = {0, LIMIT};
@@ -152,4 +206,5 @@ void largest(void)
     struct answer want = model_tally(f, &lists);
     area_allow(&big, 0, LIMIT, false);
     expect(&(struct question){.export = TALLY, .in = {big.view, LIMIT}}, &want);
+    longest_list();
 }

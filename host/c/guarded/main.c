@@ -60,6 +60,7 @@ int main(int argc, char **argv)
         side = i == 0 ? AT_END : AT_START;
         edges();
         reader_opens();
+        writings();
         for (uint64_t n = 0; n < files; n++)
             made(n);
     }

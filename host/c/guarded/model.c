@@ -1,5 +1,5 @@
 /* A model of the format, written from its description (docs/FORMAT.md): detection, what every whole call asks first, a block's
- * payload, the bytes of a frame. It is meant to be read beside the description, not to be fast. */
+ * payload, the bytes of a frame, a file of packets. It is meant to be read beside the description, not to be fast. */
 #include "guarded.h"
 
 #include <string.h>
@@ -159,5 +159,60 @@ struct answer model_fetch(struct file f, uint64_t place, uint64_t size, uint64_t
         bytes[i] = stream_byte(f, &s, place + i);
     struct answer a = answered(1, 0);
     a.b = (struct slice){bytes, size};
+    return a;
+}
+
+/* Where the read of packet k of a written file begins in the payload stream. Every other read is swapped: a pair has 82 bytes. */
+static uint64_t read_place(uint64_t k)
+{
+    return 82 * (k / 2) + 42 * (k % 2);
+}
+
+/* The byte at a place of the payload stream that packets make, by which packet's read it is of; past the last one's it is 0. */
+static uint8_t written_byte(struct file packets, uint64_t place)
+{
+    uint64_t k = 2 * (place / 82) + (place % 82 >= 42), j = place - read_place(k), n = packets.len / PACKET;
+    if (k >= n)
+        return 0;
+    const uint8_t *packet = packets.at + PACKET * k;
+    if (k % 2 == 1)
+        return j % 2 == 0 ? packet[j + 3] : packet[j - 1];
+    return j != 40 ? packet[j] : k + 1 < n ? packet[PACKET + 1] : 0;
+}
+
+void model_block(struct file packets, uint64_t block, uint8_t *to)
+{
+    uint64_t begin = STREAM * block, n = packets.len / PACKET, first = 2 * (begin / 82), end;
+    while (first < n && read_place(first) < begin)
+        first++;
+    for (end = first; end < n && read_place(end) < begin + STREAM;)
+        end++;
+    bool begins_here = end > first;
+    to[0] = begins_here && first % 2 == 1 ? 0x8F : 0x0F;
+    to[1] = begins_here ? (uint8_t)(3 + (read_place(first) - begin) / 2) : 0;
+    to[2] = (uint8_t)(end - first);
+    memcpy(to + 3, "\xFF\0\xFF", 3);
+    for (uint64_t i = 0; i < STREAM; i++)
+        to[HEAD + i] = written_byte(packets, begin + i);
+}
+
+struct answer model_write(struct file header, struct file packets, uint64_t room, uint8_t *out)
+{
+    if (header.len != DS2_START || (!begins(header, 1, "ds2") && !begins(header, 3, "ds2")))
+        return refused(15, 0);
+    for (uint64_t k = 0; PACKET * k < packets.len; k++)
+        if (packets.len - PACKET * k < PACKET || packets.at[PACKET * k + 40] != 0)
+            return refused(16, k);
+    uint64_t blocks = (read_place(packets.len / PACKET) + STREAM - 1) / STREAM;
+    uint64_t size = DS2_START + BLOCK * blocks;
+    if (size > LIMIT)
+        return refused(17, LIMIT);
+    if (size > room)
+        return refused(8, size);
+    memcpy(out, header.at, DS2_START);
+    for (uint64_t i = 0; i < blocks; i++)
+        model_block(packets, i, out + DS2_START + BLOCK * i);
+    struct answer a = answered(size, 0);
+    a.b = (struct slice){out, size};
     return a;
 }
