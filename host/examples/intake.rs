@@ -1,34 +1,24 @@
 // The intake program: it reads a recording, writes its packets, frames or records, and says in one line whether it is complete as
 // announced. It rests on the crate's safe calls, whose rule for that word it follows. SP recordings are read in pieces by a reader; what
 // a reader does not take is read whole. What it prints and its exit statuses are in `HELP`.
+mod common;
+
+use common::command::{check_version, failed, misused, of_system, open, reserve, shown, status, Outcome, Program, Stop};
+use common::new_file::{NewFile, Source};
 use klovdrun::demux::{ds2, AudioFormat};
-use klovdrun::{archive_version, dss_start, frames, tally, Packets, ReadSizes, Reader, Refusal, Tally, DS2_START, FRAME, LIMIT, PACKET, VERSION};
+use klovdrun::{dss_start, frames, tally, Packets, ReadSizes, Reader, Refusal, Tally, DS2_START, FRAME, LIMIT, PACKET};
 use std::ffi::{OsStr, OsString};
 use std::fmt;
-use std::fs::{self, File, Metadata, OpenOptions};
-use std::io::{self, BufReader, BufWriter, ErrorKind, Read, Seek, SeekFrom, Write};
-use std::os::unix::ffi::OsStrExt;
-use std::os::unix::fs::MetadataExt;
-use std::os::unix::io::AsFd;
+use std::fs::File;
+use std::io::{BufReader, Read, Seek, SeekFrom};
 use std::path::{Path, PathBuf};
 use std::process::ExitCode;
-
-/// Exit statuses. 2 is kept for a recording that is suspect, and never given.
-mod status {
-    pub const COMPLETE: u8 = 0;
-    pub const INCOMPLETE: u8 = 1;
-    pub const REFUSED: u8 = 3;
-    pub const FAILED: u8 = 4;
-    pub const WRONG_USE: u8 = 64;
-}
 
 const DEFAULT_PIECE: usize = 4096;
 /// How much is read at a time where the recording is read whole.
 const PART: usize = 1 << 20;
 /// Room for packets to begin with, and for each asking of the lenient end.
 const SOME_ROOM: usize = 64;
-/// How many temporary names are tried.
-const TRIES: usize = 100;
 
 const HELP: &str = "\
 usage: intake [--force] [--] RECORDING PACKETS [PIECE]
@@ -55,40 +45,7 @@ leads to. Neither a DSS or DS2 recording, this one or another, nor what is not a
 that is killed may leave its temporary file .intake-PID beside PACKETS.
 ";
 
-/// Why there is no report.
-enum Stop {
-    Refused(Refusal),
-    Failed(String),
-    Misused(String),
-}
-
-impl From<Refusal> for Stop {
-    fn from(refusal: Refusal) -> Stop {
-        Stop::Refused(refusal)
-    }
-}
-
-type Outcome<T> = Result<T, Stop>;
-
-fn failed<T>(name: &str, cause: &str) -> Outcome<T> {
-    Err(Stop::Failed(format!("{name}: {cause}")))
-}
-
-/// A failure's cause in the system's words, without its number.
-fn cause(error: &io::Error) -> String {
-    let told = error.to_string();
-    told.split(" (os error").next().unwrap_or_default().to_string()
-}
-
-/// An answer of the system; if it is a failure, with the name of what it is about.
-fn of_system<T>(name: &str, answer: io::Result<T>) -> Outcome<T> {
-    answer.or_else(|error| failed(name, &cause(&error)))
-}
-
-/// Room for so many bytes more, whose number comes from a file and may be large.
-fn reserve(bytes: &mut Vec<u8>, more: usize) -> Outcome<()> {
-    bytes.try_reserve(more).map_err(|_| Stop::Failed("out of memory".into()))
-}
+const INTAKE: Program = Program { name: "intake", help: HELP };
 
 fn room_for(packets: usize) -> Outcome<Packets> {
     let mut room = Packets::default();
@@ -114,13 +71,14 @@ struct Input {
 
 impl Input {
     fn open(name: &OsStr) -> Outcome<Input> {
-        let (name, file) = match name.as_bytes() {
-            b"-" => ("standard input".into(), io::stdin().as_fd().try_clone_to_owned().map(File::from)),
-            _ => (shown(Path::new(name)), File::open(name)),
-        };
-        let mut file = BufReader::new(of_system(&name, file)?);
+        let (name, file) = open(name)?;
+        let mut file = BufReader::new(file);
         let origin = file.stream_position().ok();
         Ok(Input { name, file, origin, held: Vec::new(), keeps_all: true, piece: 0, taken: 0 })
+    }
+
+    fn source(&self) -> Source<'_> {
+        Source { name: &self.name, file: self.file.get_ref(), itself: "it is the recording itself" }
     }
 
     /// Reads the next piece, which is shorter than asked for only at the recording's end, and says whether there was one. One byte over
@@ -158,74 +116,6 @@ impl Input {
         }
         while self.next_piece(PART)? {}
         Ok(&self.held)
-    }
-}
-
-fn shown(path: &Path) -> String {
-    path.display().to_string()
-}
-
-/// A temporary file's name; the file is removed with it. After a renaming there is none.
-struct Temporary(PathBuf);
-
-impl Drop for Temporary {
-    fn drop(&mut self) {
-        let _ = fs::remove_file(&self.0);
-    }
-}
-
-/// The folder of PACKETS with its slash.
-fn folder_of(packets: &Path) -> OsString {
-    let bytes = packets.as_os_str().as_bytes();
-    let folder = bytes.iter().rposition(|&byte| byte == b'/').map_or(&b"./"[..], |slash| &bytes[..=slash]);
-    OsStr::from_bytes(folder).to_os_string()
-}
-
-/// Makes a file of a name that is not there yet, in the folder of PACKETS.
-fn make_temporary(packets: &Path) -> io::Result<(Temporary, File)> {
-    let mut tries = 0;
-    loop {
-        let mut name = folder_of(packets);
-        name.push(format!(".intake-{}", std::process::id()));
-        if tries > 0 {
-            name.push(format!("-{tries}"));
-        }
-        tries += 1;
-        match OpenOptions::new().write(true).create_new(true).open(&name) {
-            Err(error) if error.kind() == ErrorKind::AlreadyExists && tries < TRIES => {}
-            made => return made.map(|file| (Temporary(name.into()), file)),
-        }
-    }
-}
-
-/// Whether a file begins as recordings do. Of a pipe it cannot be told whether it brings this one.
-fn is_recording(name: &Path) -> bool {
-    let mut first = Vec::new();
-    let read = File::open(name).and_then(|file| file.take(4).read_to_end(&mut first));
-    read.is_ok() && !matches!(tally(&first), Err(Refusal { number: Refusal::MAGIC, .. }))
-}
-
-/// Fails if PACKETS must not be written: asked before the recording is read, and again before the file is put in place.
-fn look_at_output(packets: &Path, force: bool, input: &Input) -> Outcome<()> {
-    let name = shown(packets);
-    match fs::symlink_metadata(packets) {
-        Err(error) if error.kind() == ErrorKind::NotFound => return Ok(()),
-        there => of_system(&name, there)?,
-    };
-    let known = |file: &Metadata| (file.dev(), file.ino());
-    let recording = known(&of_system(&input.name, input.file.get_ref().metadata())?);
-    // none for a link to nothing
-    let led_to = fs::metadata(packets).ok();
-    if led_to.as_ref().map(known) == Some(recording) {
-        failed(&name, "it is the recording itself")
-    } else if led_to.as_ref().map_or(false, |led_to| !led_to.is_file()) {
-        failed(&name, "it is not a file")
-    } else if led_to.is_some() && is_recording(packets) {
-        failed(&name, "it is a recording")
-    } else if !force {
-        failed(&name, "it is there already; --force replaces it")
-    } else {
-        Ok(())
     }
 }
 
@@ -268,23 +158,20 @@ fn hold(what: &str, counted: usize, told: usize) -> Outcome<()> {
     failed(what, &format!("{counted} were counted here, and the archive tells {told}"))
 }
 
-/// The packets file, which has another name until it is whole, and what was written to it.
+/// The packets file, and what was written to it.
 struct Output<'a> {
-    packets: &'a Path,
-    force: bool,
-    temporary: Temporary,
-    file: BufWriter<File>,
+    file: NewFile<'a>,
     counted: Counted,
 }
 
 impl<'a> Output<'a> {
-    fn create(packets: &'a Path, force: bool) -> Outcome<Output<'a>> {
-        let (temporary, file) = of_system(&shown(packets), make_temporary(packets))?;
-        Ok(Output { packets, force, temporary, file: BufWriter::new(file), counted: Counted::default() })
+    fn create(packets: &'a Path, force: bool, input: &Input) -> Outcome<Output<'a>> {
+        let file = NewFile::create(INTAKE.name, packets, force, &[input.source()])?;
+        Ok(Output { file, counted: Counted::default() })
     }
 
     fn put(&mut self, bytes: &[u8], of_file: usize, whole: usize) -> Outcome<()> {
-        of_system(&shown(self.packets), self.file.write_all(bytes))?;
+        self.file.put(bytes)?;
         self.counted.add(of_file, whole);
         Ok(())
     }
@@ -300,31 +187,11 @@ impl<'a> Output<'a> {
     /// Throws away what was written and counted.
     fn start_anew(&mut self) -> Outcome<()> {
         self.counted = Counted::default();
-        let emptied = self.file.seek(SeekFrom::Start(0)).and_then(|_| self.file.get_ref().set_len(0));
-        of_system(&shown(self.packets), emptied)
+        self.file.start_anew()
     }
 
-    /// A file that was made meanwhile is not overwritten: a link is refused then, as a renaming is not. Where the file system has no links
-    /// the name is taken first, by an empty file.
-    fn link(&self) -> io::Result<()> {
-        let Temporary(temporary) = &self.temporary;
-        match fs::hard_link(temporary, self.packets) {
-            Err(error) if error.kind() != ErrorKind::AlreadyExists => {
-                OpenOptions::new().write(true).create_new(true).open(self.packets)?;
-                fs::rename(temporary, self.packets)
-            }
-            linked => linked,
-        }
-    }
-
-    /// Puts the file in place, and its name on the disk too: a folder that cannot be opened for that is left to the system.
-    fn put_in_place(mut self, input: &Input) -> Outcome<Counted> {
-        let name = shown(self.packets);
-        of_system(&name, self.file.flush().and_then(|()| self.file.get_ref().sync_all()))?;
-        look_at_output(self.packets, self.force, input)?;
-        let placed = if self.force { fs::rename(&self.temporary.0, self.packets) } else { self.link() };
-        of_system(&name, placed)?;
-        let _ = File::open(folder_of(self.packets)).and_then(|folder| folder.sync_all());
+    fn put_in_place(self, input: &Input) -> Outcome<Counted> {
+        self.file.put_in_place(&[input.source()])?;
         Ok(self.counted)
     }
 }
@@ -521,16 +388,6 @@ fn whole_qp7(file: &[u8], output: &mut Output) -> Outcome<&'static str> {
     Ok("records")
 }
 
-/// What the command line asks for.
-enum Asked {
-    Help,
-    Run { recording: OsString, packets: PathBuf, size: usize, force: bool },
-}
-
-fn misused<T>(what: &str) -> Outcome<T> {
-    Err(Stop::Misused(format!("{what}; --help tells more")))
-}
-
 /// The piece's size: digits alone, at least 1. More than the limit and a byte is never of use, so it is not asked for.
 fn piece_size(digits: &OsStr) -> Option<usize> {
     let digits = digits.to_str()?;
@@ -539,17 +396,8 @@ fn piece_size(digits: &OsStr) -> Option<usize> {
     (plain && size > 0).then_some(size.min(LIMIT + 1))
 }
 
-fn command_line(arguments: impl Iterator<Item = OsString>) -> Outcome<Asked> {
-    let (mut names, mut force, mut options) = (Vec::new(), false, true);
-    for argument in arguments {
-        match argument.as_bytes() {
-            b"--" if options => options = false,
-            b"--help" if options => return Ok(Asked::Help),
-            b"--force" if options => force = true,
-            [b'-', _, ..] if options => return misused(&format!("there is no option {}", shown(Path::new(&argument)))),
-            _ => names.push(argument),
-        }
-    }
+/// The recording, the packets file, and the piece's size.
+fn asked(mut names: Vec<OsString>) -> Outcome<(OsString, PathBuf, usize)> {
     if names.len() < 2 || names.len() > 3 {
         return misused("it takes RECORDING PACKETS [PIECE]");
     }
@@ -561,53 +409,22 @@ fn command_line(arguments: impl Iterator<Item = OsString>) -> Outcome<Asked> {
         },
     };
     let packets = PathBuf::from(names.swap_remove(1));
-    Ok(Asked::Run { recording: names.swap_remove(0), packets, size, force })
+    Ok((names.swap_remove(0), packets, size))
 }
 
-fn run(recording: &OsStr, packets: &Path, size: usize, force: bool) -> Outcome<Report> {
-    let told = archive_version();
-    if told != VERSION {
-        return Err(Stop::Failed(format!("the archive has version {told}, and this program is for version {VERSION}")));
-    }
-    let mut input = Input::open(recording)?;
-    look_at_output(packets, force, &input)?;
-    let mut output = Output::create(packets, force)?;
+fn run(names: Vec<OsString>, force: bool) -> Outcome<(Report, u8)> {
+    let (recording, packets, size) = asked(names)?;
+    check_version()?;
+    let mut input = Input::open(&recording)?;
+    let mut output = Output::create(&packets, force, &input)?;
     let ended = match in_pieces(&mut input, &mut output, size)? {
         Some(ended) => ended,
         None => whole(&mut input, &mut output)?,
     };
-    Ok(Report { ended, counted: output.put_in_place(&input)? })
-}
-
-/// Prints what there is to say. If that cannot be done the answer is lost, which is no success.
-fn say(what: &dyn fmt::Display, status: u8) -> ExitCode {
-    let mut to = io::stdout();
-    match write!(to, "{what}").and_then(|()| to.flush()) {
-        Ok(()) => ExitCode::from(status),
-        Err(error) => complain(&format!("standard output: {}", cause(&error)), status::FAILED),
-    }
-}
-
-fn complain(what: &str, status: u8) -> ExitCode {
-    // there is nowhere to say that this cannot be written
-    let _ = writeln!(io::stderr(), "intake: {what}");
-    ExitCode::from(status)
+    let status = if ended.complete { status::COMPLETE } else { status::INCOMPLETE };
+    Ok((Report { ended, counted: output.put_in_place(&input)? }, status))
 }
 
 fn main() -> ExitCode {
-    let told = match command_line(std::env::args_os().skip(1)) {
-        Ok(Asked::Help) => return say(&HELP, status::COMPLETE),
-        Ok(Asked::Run { recording, packets, size, force }) => run(&recording, &packets, size, force),
-        Err(stop) => Err(stop),
-    };
-    match told {
-        Ok(report) if report.ended.complete => say(&format_args!("{report}\n"), status::COMPLETE),
-        Ok(report) => say(&format_args!("{report}\n"), status::INCOMPLETE),
-        Err(Stop::Refused(refusal)) => {
-            let Refusal { number, beside } = refusal;
-            say(&format_args!("refused {number} {beside}: {refusal}\n"), status::REFUSED)
-        }
-        Err(Stop::Failed(what)) => complain(&what, status::FAILED),
-        Err(Stop::Misused(what)) => complain(&what, status::WRONG_USE),
-    }
+    INTAKE.run(run)
 }
