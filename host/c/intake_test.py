@@ -465,12 +465,15 @@ def write(path, data):
 
 
 class Trial:
+    """Runs of one program, which has that name in its messages and writes a file of that name in a folder of its own."""
+    program, output = "intake", "packets"
+
     def __init__(self, command, folder):
         self.command = command
         self.recording = os.path.join(folder, "recording")
         self.folder = os.path.join(folder, "out")
         os.mkdir(self.folder)
-        self.packets = os.path.join(self.folder, "packets")
+        self.packets = os.path.join(self.folder, self.output)
         self.runs = self.wrong = 0
 
     def hold(self, name, complaint):
@@ -479,7 +482,7 @@ class Trial:
             print(f"wrong: {name}: {complaint}")
 
     def run(self, name, arguments, want, says="", **given):
-        """One run. It has to print that line, leave those bytes in the packets file and nothing else in its folder, and end with that
+        """One run. It has to print that line, leave those bytes in the file that it writes and nothing else in its folder, and end with that
         status; with a failure, one line on standard error that says so."""
         line, packets, status = want
         before = set(os.listdir(self.folder))
@@ -492,15 +495,15 @@ class Trial:
         complaint = ""
         if (out, done.returncode) != (line, status):
             complaint = f"expected {status} {line!r}, got {done.returncode} {out!r} {errors!r}"
-        elif status in (FAILED, WRONG_USE) and not re.fullmatch(rf"intake: [^\n]*{re.escape(says)}[^\n]*\n", errors):
+        elif status in (FAILED, WRONG_USE) and not re.fullmatch(rf"{self.program}: [^\n]*{re.escape(says)}[^\n]*\n", errors):
             complaint = f"expected a line with {says!r} on standard error, got {errors!r}"
         elif status not in (FAILED, WRONG_USE) and errors:
             complaint = f"expected nothing on standard error, got {errors!r}"
         elif os.path.isfile(self.packets) or packets is not None:
             got = contents(self.packets)
             if got != packets:
-                complaint = f"packets file: expected {packets and len(packets)} bytes, got {got and len(got)}, or others"
-        changed = (set(os.listdir(self.folder)) ^ before) - {"packets"}
+                complaint = f"{self.output} file: expected {packets and len(packets)} bytes, got {got and len(got)}, or others"
+        changed = (set(os.listdir(self.folder)) ^ before) - {self.output}
         self.hold(f"{name}, {' '.join(arguments)}", complaint or (f"left or removed: {changed}" if changed else ""))
 
     def read(self, name, data, want, piece=None, by="file", force=False):
