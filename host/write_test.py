@@ -116,7 +116,7 @@ def packets_of(rng, number):
 
 def written(trial, readers):
     rng = random.Random(30)
-    for number in (0, 1, 2, 11, 12, 13, 14, 24, 25, 36, 37, 38, 506, 507, *(rng.randrange(200) for _ in range(10))):
+    for number in (0, 1, 2, 11, 12, 13, 14, 24, 25, 36, 37, 38, 506, 507, *(rng.randrange(200) for _ in range(4))):
         header, joined = header_of(rng, rng.choice((1, 3))), packets_of(rng, number)
         for by in ("files", "packets", "header"):
             trial.write(f"{number} packets by {by}", header, joined, by, force=number % 2 == 0)

@@ -7,7 +7,6 @@ use common::command::{check_version, misused, of_system, open, reserve, status, 
 use common::new_file::{NewFile, Source};
 use klovdrun::mux::{ds2_sp_file_size, write_ds2_sp_into};
 use klovdrun::{tally, DS2_START, LIMIT, PACKET};
-use std::convert::TryInto;
 use std::ffi::{OsStr, OsString};
 use std::fs::File;
 use std::io::Read;

@@ -8,7 +8,7 @@ use klovdrun::demux::{ds2, AudioFormat};
 use klovdrun::mux::{ds2_sp_file_size, write_ds2_sp, write_ds2_sp_into};
 use klovdrun::{tally, Packets, Reader, Refusal, Tally, BLOCK, DS2_START, LIMIT, PACKET};
 
-const FILES: u64 = 250;
+const FILES: u64 = 150;
 /// The packets of the longest file.
 const MOST: usize = 6_470_444;
 
