@@ -5,7 +5,7 @@ use crate::common::files::{self, file, Dice};
 use crate::lent::Lent;
 use crate::ours;
 use crate::score::Score;
-use crate::{ends, pieces, tables, whole, whole_sp};
+use crate::{ends, pieces, tables, whole, whole_sp, written};
 use klovdrun::{QP7_WORDS, QP_WORDS};
 
 /// Every comparison, some times over, since rooms and cuts are the dice's, and rooms by the byte.
@@ -22,6 +22,7 @@ fn every(name: &str, file: &[u8], score: &mut Score) {
     }
     whole_sp::rooms(&both, score);
     tables::rooms(&both, score);
+    written::again(&both, score);
 }
 
 /// The numbers of a whole SP call, and the packets and counts that it wrote.

@@ -1,5 +1,6 @@
-// The original beside the archive: both are given the same files, and every result of every call is compared. It rests on the original as
-// compare/run builds it, on the archive through host/src/raw.rs, and on the recordings and the model of the host's tests.
+// The original beside the archive: both are given the same files, and every result of every call is compared; what the archive writes, both read.
+// It rests on the original as compare/run builds it, on the archive through host/src/raw.rs, and on the recordings and the model of the host's
+// tests.
 //
 // compare [FILES [SEED]]: so many generated files from that seed on; without arguments 100,000 of them, and the fixed parts too. What was
 // compared is printed at the end, and depends on no machine; what it took, and what is unexplained, goes to the other output.
@@ -29,6 +30,7 @@ mod score;
 mod short;
 mod tables;
 mod whole_sp;
+mod written;
 
 use both::Both;
 use common::files::{self, Dice};
@@ -47,7 +49,7 @@ fn whole(both: &Both, dice: &mut Dice, score: &mut Score) {
     numbers::compare(both, dice, score);
 }
 
-/// The file of that seed, in every way; some through the Rust crate, too.
+/// The file of that seed, in every way; some through the Rust crate, too, and some written again.
 fn generated(seed: u64, score: &mut Score) {
     let mut dice = Dice::new(seed);
     let mut file = files::small(&mut dice);
@@ -60,6 +62,9 @@ fn generated(seed: u64, score: &mut Score) {
     pieces::compare(&both, &mut dice, score);
     if dice.percent(3) {
         drop_in::compare(&file, &mut dice, score);
+    }
+    if dice.percent(15) {
+        written::again(&both, score);
     }
 }
 
@@ -93,6 +98,7 @@ fn main() {
         timed("worked examples and edges", &mut score, fixed::compare);
         timed("short inputs", &mut score, short::compare);
         timed("the limit", &mut score, limits::compare);
+        timed("written", &mut score, written::compare);
     }
     timed("generated", &mut score, |score| {
         (seed..seed + files).for_each(|seed| guarded(score, |score| generated(seed, score)));

@@ -58,6 +58,13 @@ pub fn demux_ds2_qp7(file: &[u8], records: &mut [u32], segments: &mut [u32]) -> 
     })
 }
 
+pub fn write_ds2_sp(header: &[u8], packets: &[u8], out: &mut [u8]) -> Numbers {
+    let out_len = out.len();
+    numbers(unsafe {
+        raw::klov_write_ds2_sp(header.as_ptr(), header.len(), packets.as_ptr(), packets.len(), out.as_mut_ptr(), out_len)
+    })
+}
+
 pub fn frame(start: u64, length: u64, k: u64) -> Numbers {
     numbers(unsafe { raw::klov_frame(start, length, k) })
 }
