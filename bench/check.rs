@@ -4,13 +4,14 @@ use crate::demux::ds2::DemuxedDs2;
 use crate::files::{file_place, Kind, Recording, BLOCK};
 use crate::jobs::{Job, Way};
 use crate::original;
-use ours::{QP7_WORDS, QP_WORDS};
+use ours::{Room, QP7_WORDS, QP_WORDS};
 
 /// Whether the two agree on this recording, and each unit is there.
 pub fn agree(job: Job, recording: &Recording) -> bool {
     match (job.way, job.kind) {
         (Way::Pieces(bytes), _) => pieces(job, bytes, recording),
         (Way::Tally, _) => tally(job, recording),
+        (Way::Write, _) => written(job, recording),
         (Way::Whole, Kind::Qp) => qp(job, recording),
         (Way::Whole, Kind::Qp7) => qp7(job, recording),
         (Way::Whole, _) => packets(job, recording),
@@ -45,6 +46,18 @@ fn pieces(job: Job, bytes: usize, recording: &Recording) -> bool {
 fn tally(job: Job, recording: &Recording) -> bool {
     let packets = original_packets(job.kind, &recording.file).len() / 42;
     packets == recording.units && ours::tally(&recording.file) == (packets, 0, packets)
+}
+
+/// The file has as many bytes as the recording whose packets it has, and either side reads them back.
+fn written(job: Job, recording: &Recording) -> bool {
+    let mut room = job.room(recording);
+    let bytes = job.by_ours(&recording.file, &mut room);
+    let file = &room.file[..bytes];
+    let mut back = Room::for_packets(recording.units);
+    bytes == recording.file.len()
+        && ours::ds2_sp(file, &mut back) == recording.units
+        && back.out == room.out
+        && original_packets(job.kind, file) == room.out
 }
 
 /// All payloads joined.

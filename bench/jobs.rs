@@ -1,5 +1,5 @@
-// What is measured: a recording of some kind, read whole, in pieces, or tallied, by either side. It rests on the crate `ours` and on
-// the module `original`.
+// What is measured: a recording of some kind, read whole, in pieces, or tallied, by either side, or written anew from its packets. It rests on
+// the crate `ours` and on the module `original`.
 use crate::files::{Kind, Recording};
 use crate::original;
 use ours::{Room, QP7_WORDS, QP_WORDS};
@@ -9,6 +9,7 @@ pub enum Way {
     Whole,
     Pieces(usize),
     Tally,
+    Write,
 }
 
 #[derive(Clone, Copy)]
@@ -18,7 +19,8 @@ pub struct Job {
 }
 
 impl Job {
-    /// `ds2`, `dss`, `qp`, `qp7`; with `-512` or another number behind it in pieces of so many bytes, with `-tally` tallied.
+    /// `ds2`, `dss`, `qp`, `qp7`; with `-512` or another number behind it in pieces of so many bytes, with `-tally` tallied. `ds2-write` is
+    /// written.
     pub fn named(name: &str) -> Option<Job> {
         let (kind, way) = name.split_once('-').unwrap_or((name, ""));
         let kind = match kind {
@@ -31,15 +33,23 @@ impl Job {
         let way = match way {
             "" => Way::Whole,
             "tally" => Way::Tally,
+            "write" if kind == Kind::Ds2 => Way::Write,
             bytes => Way::Pieces(bytes.parse().ok()?),
         };
         Some(Job { kind, way })
     }
 
-    /// The memory that this side is lent for a recording.
+    /// The memory that this side is lent for a recording; for writing, with the packets to be written.
     pub fn room(self, recording: &Recording) -> Room {
         match (self.way, self.kind) {
             (Way::Tally, _) => Room::for_packets(0),
+            (Way::Write, _) => {
+                let mut room = Room::for_packets(recording.units);
+                ours::ds2_sp(&recording.file, &mut room);
+                // A copy of the packets is to fit too, and they have more bytes than their file.
+                room.file = vec![0; room.out.len().max(recording.file.len())];
+                room
+            }
             (Way::Pieces(bytes), _) => Room::for_piece(bytes),
             (Way::Whole, Kind::Qp) => Room::for_words(QP_WORDS * recording.units, 0),
             (Way::Whole, Kind::Qp7) => Room::for_words(recording.units, QP7_WORDS * recording.units),
@@ -51,6 +61,7 @@ impl Job {
     pub fn by_ours(self, file: &[u8], room: &mut Room) -> usize {
         match (self.way, self.kind) {
             (Way::Tally, _) => ours::tally(file).0,
+            (Way::Write, kind) => ours::write_ds2_sp(&file[..kind.start()], room),
             (Way::Pieces(bytes), kind) => ours::pieces(kind.reader(), file, bytes, room, |_| ()),
             (Way::Whole, Kind::Ds2) => ours::ds2_sp(file, room),
             (Way::Whole, Kind::Dss) => ours::dss(file, room),
@@ -59,11 +70,20 @@ impl Job {
         }
     }
 
-    /// Does the job by the original. It has no tally: who wants the numbers reads the whole.
-    pub fn by_original(self, file: &[u8]) -> usize {
+    /// Does the job by the original. It has no tally: who wants the numbers reads the whole. It writes nothing: there a copy of the packets
+    /// stands in its place.
+    pub fn by_original(self, file: &[u8], room: &mut Room) -> usize {
         match self.way {
+            Way::Write => copied(&room.out, &mut room.file),
             Way::Pieces(bytes) => original::pieces(self.kind, file, bytes, |_| ()),
             Way::Whole | Way::Tally => original::whole(self.kind, file),
         }
     }
+}
+
+/// A copy into the beginning of other bytes, for scale.
+#[inline(never)]
+pub fn copied(from: &[u8], to: &mut [u8]) -> usize {
+    to[..from.len()].copy_from_slice(from);
+    from.len()
 }

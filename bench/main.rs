@@ -21,7 +21,7 @@ fn count(job: Job, recording: &files::Recording, side: &str, repetitions: usize)
     let file = &recording.file[..];
     match side {
         "ours" => Some((0..repetitions).map(|_| job.by_ours(file, &mut room)).sum()),
-        "rust" => Some((0..repetitions).map(|_| job.by_original(file)).sum()),
+        "rust" => Some((0..repetitions).map(|_| job.by_original(file, &mut room)).sum()),
         _ => None,
     }
 }
@@ -36,7 +36,7 @@ fn asked(arguments: &[&str]) -> Option<String> {
     let recording = files::make(job.kind, size.parse().ok()?);
     match (*what, rest) {
         ("check", []) if check::agree(job, &recording) => Some(format!("{} {}", recording.units, recording.file.len())),
-        ("check", []) => panic!("{name}: the two sides hand out different bytes"),
+        ("check", []) => panic!("{name}: the two sides hand out different bytes, or not all"),
         ("count", [side, repetitions]) => count(job, &recording, side, repetitions.parse().ok()?).map(|sum| sum.to_string()),
         ("time", [repetitions]) => {
             let [ours, original, copy] = timing::times(job, &recording, repetitions.parse().ok()?);

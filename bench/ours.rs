@@ -17,17 +17,19 @@ pub const QP7_WORDS: usize = 3;
 /// A block announces at most 13 packets in the recordings that are measured, and a piece completes at most one block more than it has.
 const PACKETS_A_BLOCK: usize = 13;
 
-/// What is lent: packets and their counts, or two tables of words.
+/// What is lent: packets and their counts, or two tables of words; for writing a file, its packets being in `out`.
+#[derive(Default)]
 pub struct Room {
     pub out: Vec<u8>,
     pub counts: Vec<u8>,
     pub first: Vec<u32>,
     pub second: Vec<u32>,
+    pub file: Vec<u8>,
 }
 
 impl Room {
     pub fn for_packets(packets: usize) -> Room {
-        Room { out: vec![0; PACKET * packets], counts: vec![0; packets], first: Vec::new(), second: Vec::new() }
+        Room { out: vec![0; PACKET * packets], counts: vec![0; packets], ..Room::default() }
     }
 
     pub fn for_piece(bytes: usize) -> Room {
@@ -35,7 +37,7 @@ impl Room {
     }
 
     pub fn for_words(first: usize, second: usize) -> Room {
-        Room { out: Vec::new(), counts: Vec::new(), first: vec![0; first], second: vec![0; second] }
+        Room { first: vec![0; first], second: vec![0; second], ..Room::default() }
     }
 }
 
@@ -57,6 +59,11 @@ pub fn ds2_qp(file: &[u8], room: &mut Room) -> usize {
 /// How many records and segments: their tables are `first` and `second`.
 pub fn ds2_qp7(file: &[u8], room: &mut Room) -> (usize, usize) {
     raw::demux_ds2_qp7(file, &mut room.first, &mut room.second).expect("a QP7 recording")
+}
+
+/// How many bytes the file has that is written.
+pub fn write_ds2_sp(header: &[u8], room: &mut Room) -> usize {
+    raw::write_ds2_sp(header, &room.out, &mut room.file).expect("packets that can be written")
 }
 
 /// Packets handed out, how many of them are short, and frames announced.

@@ -28,6 +28,7 @@ ROWS = [
     ("dss-65536", "DSS in pieces of 64 KiB", "packet", False),
     ("ds2-tally", "tally of DS2 SP", "packet", True),
     ("dss-tally", "tally of DSS", "packet", True),
+    ("ds2-write", "writing DS2 SP", "packet", True),
 ]
 RECORDINGS = """\
 The recordings, each with payload bytes that look random, and a last block that announces only what is complete, so that nothing is short:
@@ -37,7 +38,9 @@ The recordings, each with payload bytes that look random, and a last block that 
   what its whole reading does.
 - QP: frames of 56 bytes without a gap, one segment; a block announces those whose first byte it has, 9 or 10.
 - QP7: records of 12 and of 56 bytes, as the payload's bytes have it, about as many of each, without a gap, one segment.
+- Writing: the packets of the DS2 SP recording, joined, under its header.
 """
+WRITING = "The Rust writes no files: beside writing stands a copy of the packets' bytes, without a ratio, and the target is in instructions of ours."
 NATIVE = platform.machine() == "x86_64"
 
 
@@ -76,8 +79,9 @@ def units(job, size):
 
 
 def targets():
+    """Of each job the target, a ratio, or None where the Rust has no such call; and the limit."""
     rows = [line.split() for line in open("bench/targets.txt") if line.strip() and not line.startswith("#")]
-    return {job: (float(target), float(limit)) for job, target, limit in rows}
+    return {job: (None if target == "-" else float(target), float(limit)) for job, target, limit in rows}
 
 
 def figure(value):
@@ -88,31 +92,39 @@ def share(ratio):
     return "%.3f" % ratio if ratio >= 0.01 else "%.4f" % ratio
 
 
-def counted(job, size, target, quick, growing):
-    """The cells of a row that are instructions, the ratio, and ours for each unit."""
+def counted(job, size, target, limit, quick, growing):
+    """The cells of a row that are instructions, what it reached if that is above its target, and ours for each unit."""
     many = units(job, size)
     ours, rust = instructions(job, size, "ours"), instructions(job, size, "rust")
-    ratio = ours / rust
-    missed = "missed by %.0f %%" % (100 * (ratio / target - 1)) if ratio > target else ""
-    cells = [figure(ours / many), figure(rust / many), share(ratio), "%.2f" % target, missed]
+    if target is None:
+        reached, most, told = ours / many, limit, figure(ours / many)
+        cells = [told, "copy: " + figure(rust / many), "", "%g instructions" % limit]
+    else:
+        reached, most, told = ours / rust, target, share(ours / rust)
+        cells = [figure(ours / many), figure(rust / many), told, "%.2f" % target]
+    above = reached > most
+    cells.append("missed by %.0f %%" % (100 * (reached / most - 1)) if above else "")
     if not quick:
         cells += [figure(grown(job, at, size, ours, many)) if growing else "" for at in SIZES]
-    return cells, ratio, ours / many
+    return cells, told if above else None, ours / many
 
 
 def grown(job, at, size, ours, many):
     return ours / many if at == size else instructions(job, at, "ours") / units(job, at)
 
 
-def timed(job):
+def timed(job, target):
     """The cells of a row that are time: nanoseconds for each unit, and the file's megabytes a second, a copy's too."""
     many, long = map(int, driver(job, TIMED, "check").split())
     ours, rust, copy = map(int, driver(job, TIMED, "time", REPETITIONS).split())
-    return [figure(ours / many), figure(rust / many)] + ["%.0f" % (1000 * long / spent) for spent in (ours, rust, copy)]
+    speeds = ["%.0f" % (1000 * long / spent) for spent in (ours, rust, copy)]
+    if target is None:
+        return [figure(ours / many), "copy: " + figure(rust / many), speeds[0], "", speeds[2]]
+    return [figure(ours / many), figure(rust / many)] + speeds
 
 
 def heads(counts, quick):
-    cells = ["reading", "per"]
+    cells = ["job", "per"]
     if counts:
         cells += ["ours", "the Rust", "ratio", "target", ""]
         cells += [] if quick else ["ours at %d MiB" % (at // MIB) for at in SIZES]
@@ -126,18 +138,19 @@ def line(cells):
 
 
 def table(quick, counts):
-    """The table's lines, each row's ratio, and each row's instructions of ours."""
-    said, ratios, spent = targets(), {}, {}
+    """The table's lines, the rows that miss their target, and each row's instructions of ours."""
+    said, missed, spent = targets(), [], {}
     lines = [line(heads(counts, quick)), line(["---"] * len(heads(counts, quick)))]
     for job, name, unit, growing in ROWS:
         cells = [name, unit]
         if counts:
-            more, ratios[job], spent[job] = counted(job, QUICK if quick else COUNTED, said[job][0], quick, growing)
+            more, above, spent[job] = counted(job, QUICK if quick else COUNTED, *said[job], quick, growing)
             cells += more
+            missed += ["%s (%s)" % (name, above)] if above else []
         if NATIVE and not quick:
-            cells += timed(job)
+            cells += timed(job, said[job][0])
         lines.append(line(cells))
-    return lines, ratios, spent
+    return lines, missed, spent
 
 
 def processor():
@@ -158,7 +171,7 @@ def steady(size):
     return "A row counted again gave the same number to the instruction." if counts[0] == counts[1] else "Counted again, a row gave %s for %s." % tuple(counts)
 
 
-def notes(quick, counts, ratios):
+def notes(quick, counts, missed):
     size = QUICK if quick else COUNTED
     lines = []
     if counts:
@@ -169,7 +182,7 @@ def notes(quick, counts, ratios):
         lines.append("Time is left out: the machine is not x86-64, and the time of an emulator says nothing.")
     elif not quick:
         lines.append("Time is the best of %d repetitions on recordings of %d MiB." % (REPETITIONS, TIMED // MIB))
-    missed = ["%s (%s)" % (name, share(ratios[job])) for job, name, _, _ in ROWS if job in ratios and ratios[job] > targets()[job][0]]
+    lines.append(WRITING)
     if counts:
         lines.append("Targets missed: %s." % (", ".join(missed) or "none"))
     return ["\n"] + [text + "\n" for text in lines] + ["\n", RECORDINGS]
@@ -183,8 +196,8 @@ def write(lines):
 
 def main(words):
     quick, counts = "quick" in words, os.path.exists(PLUGIN)
-    lines, ratios, spent = table(quick, counts)
-    lines = [machine(counts), "\n"] + lines + notes(quick, counts, ratios)
+    lines, missed, spent = table(quick, counts)
+    lines = [machine(counts), "\n"] + lines + notes(quick, counts, missed)
     sys.stdout.write("".join(lines))
     if "write" in words:
         write(lines)

@@ -1,7 +1,7 @@
 // How long either side takes, and a copy of the same bytes, for scale: the best of some repetitions, in nanoseconds. It rests on the clock
 // of the machine, so it says something only where the program runs without an emulator.
 use crate::files::Recording;
-use crate::jobs::Job;
+use crate::jobs::{copied, Job};
 use std::time::Instant;
 
 /// The archive's time, the original's, and that of a copy.
@@ -11,7 +11,7 @@ pub fn times(job: Job, recording: &Recording, repetitions: usize) -> [u128; 3] {
     let mut copy = vec![1; file.len()];
     [
         best(repetitions, || job.by_ours(file, &mut room)),
-        best(repetitions, || job.by_original(file)),
+        best(repetitions, || job.by_original(file, &mut room)),
         best(repetitions, || copied(file, &mut copy)),
     ]
 }
@@ -25,10 +25,4 @@ fn best(repetitions: usize, mut work: impl FnMut() -> usize) -> u128 {
         assert!(handed > 0, "nothing was handed out");
     }
     best
-}
-
-#[inline(never)]
-fn copied(from: &[u8], to: &mut [u8]) -> usize {
-    to.copy_from_slice(from);
-    to.len()
 }
