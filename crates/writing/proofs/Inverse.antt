@@ -7,6 +7,8 @@ use mathlib.Core.Bool.{Bool, true, false, cond}
 use native.Mathlib.Omega.{arith}
 use borrow.Author.Tests.{eq-eqb, ne-eqb}
 use lib.ListN.{getD}
+use Rattle.tables.specs.Table.{table}
+use Rattle.tables.proofs.Table.{table-at}
 use Rattle.tables.proofs.Cases.{by-equal}
 use Rattle.packets.specs.Packet.{readSize, packetByte, carryAfter}
 use Rattle.packets.specs.Inner.{Blends}
@@ -68,3 +70,16 @@ blend-unswaps x v r shifted blends = record { long = blends .long; read = read }
         (λ odd.
         let there : j ≡ 1 + (j - 1) = omega arith in
         simp (ne-eqb (j % 2) 0 odd) (ap (λ (i : ℕ). getD v i 0) there ∙ shifted .at (j - 1) (omega arith)))
+
+-- the two reads as they are gathered, from the front of an array
+pub plain-gathered : (x : ℕ → ℕ) (r : List ℕ) → r ≡ table 42 (packetByte false 0 x) → (i : ℕ) → i < 42 → getD r (0 + i) 0 ≡ readByte false 0 x i
+unfolding packetByte readByte
+plain-gathered x r is i h =
+    let front : 0 + i ≡ i = omega arith in
+    ap (λ (j : ℕ). getD r j 0) front ∙ ap (λ (l : List ℕ). getD l i 0) is ∙ table-at 42 (packetByte false 0 x) i h
+
+pub swapped-gathered : (x : ℕ → ℕ) (r : List ℕ) → Unswapped x r → (i : ℕ) → i < 40 → getD r (0 + i) 0 ≡ readByte true 0 x i
+unfolding readByte
+swapped-gathered x r gathered i h =
+    let front : 0 + i ≡ i = omega arith in
+    ap (λ (j : ℕ). getD r j 0) front ∙ gathered .read i h

@@ -105,26 +105,14 @@ module _ (p : ℕ → ℕ → ℕ) (k : ℕ) where
       even-number m plain =
           by-equal (m % 2) 0 (λ even. even) (λ odd. absurd (never (odd-is m odd) plain))
 
-  module _ (zero : p k 40 ≡ 0) where
-    -- an unswapped packet's bytes are its read as they stand, since nothing follows it yet
-    pub even-put : k % 2 ≡ 0 → (i : ℕ) → i < 42 → laidAt (k + 1) p (reach false k + i) ≡ p k i
-    unfolding readByte
-    even-put even i h =
-        laid-in (k + 1) p k i (omega (arith, ap readSize (even-is k even)))
-        ∙ read-is (k + 1) p k i (omega arith)
-        ∙ by-equal i 40
-        (λ e. simp (eq-eqb (k % 2) 0 even, eq-eqb i 40 e, le-ltb (k + 1) (k + 1) (omega arith)) (sym (ap (p k) e ∙ zero)))
-        (λ e. simp (eq-eqb (k % 2) 0 even, ne-eqb i 40 e))
-
-  -- a swapped packet's read
-  pub odd-put : (k % 2 ≡ 0 → ⊥) → (i : ℕ) → i < 40 → laidAt (k + 1) p (reach false k + i) ≡ readByte true 0 (p k) i
-  unfolding readByte
-  odd-put odd i h =
-      laid-in (k + 1) p k i (omega (arith, ap readSize (odd-is k odd)))
+  -- its read, with nothing carried on yet
+  pub read-put : (swap : Bool) → parity false k ≡ swap → (i : ℕ) → i < readSize swap → laidAt (k + 1) p (reach false k + i) ≡ readByte swap 0 (p k) i
+  read-put swap is i h =
+      laid-in (k + 1) p k i (omega (arith, ap readSize is))
       ∙ read-is (k + 1) p k i (omega arith)
-      ∙ simp (ne-eqb (k % 2) 0 odd)
+      ∙ simp (is, le-ltb (k + 1) (k + 1) (omega arith))
 
-  -- and its byte 1, two places before
+  -- and a swapped one's byte 1, two places before
   pub carried-put : (k % 2 ≡ 0 → ⊥) → laidAt (k + 1) p (reach false k - 2) ≡ p k 1
   carried-put odd =
       let number : k - 1 + 1 ≡ k = omega arith in

@@ -92,7 +92,6 @@ module _ (header packets out : List ℕ) where
               record {
                 supplied = header-is header good .long;
                 all = sym all;
-                sound = λ k h. sound-each packets k (omega (arith, is));
                 few = few;
                 room = omega (arith, so);
               }

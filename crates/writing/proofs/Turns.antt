@@ -11,7 +11,7 @@ use lib.ListN.{length, getD}
 use lib.Dec.{eqb}
 use Rattle.tables.specs.Lent.{Leaves}
 use Rattle.tables.proofs.Lent.{leaves-to, leaves-at, leaves-twice}
-use Rattle.tables.proofs.Cases.{by-equal}
+use Rattle.tables.proofs.Cases.{by-equal, never}
 use Rattle.packets.specs.Packet.{readSize}
 use Rattle.packets.specs.Walk.{reach, parity}
 use Rattle.laying.specs.Laid.{countIn, headByte}
@@ -19,10 +19,10 @@ use Rattle.laying.specs.Putting.{begunByte, Puts, Counts, countAt, Holds, strea
 use Rattle.laying.proofs.Frames.{few-in}
 use Rattle.laying.proofs.Files.{head-is}
 use Rattle.laying.proofs.Steps.{put-beside, begun-is, put-holds, count-holds}
-use Rattle.writing.specs.Reads.{swappedRead, readByte}
+use Rattle.writing.specs.Reads.{readByte}
 use Rattle.writing.specs.Laying.{laidRead, laidAt, partLaid, spLaid}
 use Rattle.writing.specs.Inner.{PutsPacket}
-use Rattle.writing.proofs.Laying.{even-is, odd-is, reads-apart, in-read, laid-in, stream-kept, even-put, odd-put, carried-put}
+use Rattle.writing.proofs.Laying.{even-is, odd-is, reads-apart, in-read, laid-in, stream-kept, read-put, carried-put}
 
 -- the frame is counted when all its bytes are there
 counted-turn : (d header e e′ : List ℕ) (n k : ℕ) (p : ℕ → ℕ → ℕ) (swap : Bool) → k < n → swap ≡ parity false k
@@ -38,33 +38,37 @@ counted-turn d header e e′ n k p swap h is held counts =
     (subst (λ (s : Bool). Counts e (reach false k) s e′) is counts))
 
 module _ (k : ℕ) (x : ℕ → ℕ) where
-  -- unswapped: its bytes as they stand
-  pub puts-even : (e e′ e″ : List ℕ) (q : ℕ) → q ≡ reach false k → k % 2 ≡ 0 → Puts e q 42 x e′ → Counts e′ q false e″ → PutsPacket e k x e″
-  puts-even e e′ e″ q is even put counts =
+  -- what is read of a packet is read of one with the same bytes
+  same-read : (swap : Bool) (y : ℕ → ℕ) → ((i : ℕ) → i < 42 → y i ≡ x i) → (i : ℕ) → i < readSize swap → readByte swap 0 y i ≡ readByte swap 0 x i
+  unfolding readByte
+  same-read true y same i l =
+      by-equal (i % 2) 0 (λ even. simp (eq-eqb (i % 2) 0 even) (same (i + 3) (omega arith)))
+      (λ odd. simp (ne-eqb (i % 2) 0 odd) (same (i - 1) (omega arith)))
+  same-read false y same i l = by-equal i 40 (λ e. simp (eq-eqb i 40 e)) (λ e. simp (ne-eqb i 40 e) (same i l))
+
+  -- unswapped: its read
+  pub puts-even : (e e′ e″ : List ℕ) (q : ℕ) (f : ℕ → ℕ) → q ≡ reach false k → k % 2 ≡ 0 → ((i : ℕ) → i < 42 → f i ≡ readByte false 0 x i)
+      → Puts e q 42 f e′ → Counts e′ q false e″ → PutsPacket e k x e″
+  puts-even e e′ e″ q f is even read put counts =
       record {
         long = counts .long ∙ put .long;
-        one-more = λ d header n p h same zero held.
+        one-more = λ d header n p h same held.
             counted-turn d header e′ e″ n k p false h (sym (even-is k even))
-            (put-holds header (partLaid n p k) d e e′ held (reach false k) 42 x (laidAt (k + 1) p) (omega arith)
-            (λ i l. even-put p k (same 40 (omega arith) ∙ zero) even i l ∙ same i l)
-            (λ q′ outside.
-            stream-kept p k q′ (λ low high. outside low (omega (arith, ap readSize (even-is k even)))) (λ odd. absurd (not-both (sym (even-is k even) ∙ odd))))
-            (subst (λ (y : ℕ). Puts e y 42 x e′) is put))
+            (put-holds header (partLaid n p k) d e e′ held (reach false k) 42 f (laidAt (k + 1) p) (omega arith)
+            (λ i l. read-put p k false (even-is k even) i l ∙ same-read false (p k) same i l ∙ sym (read i l))
+            (λ y outside.
+            stream-kept p k y (λ low high. outside low (omega (arith, ap readSize (even-is k even)))) (λ odd. absurd (never odd (even-is k even))))
+            (subst (λ (y : ℕ). Puts e y 42 f e′) is put))
             (subst (λ (y : ℕ). Counts e′ y false e″) is counts);
       }
-    where
-      not-both : false ≡ true → ⊥
-      not-both z = let y : _≡_ {A = ℕ} 0 1 = cc in omega arith
 
   -- swapped: its byte 1 two places before, and its read
   pub puts-odd : (e e₁ e₂ e₃ : List ℕ) (q : ℕ) (f g : ℕ → ℕ) → q ≡ reach false k → (k % 2 ≡ 0 → ⊥) → f 0 ≡ x 1
-      → ((i : ℕ) → i < 40 → g i ≡ swappedRead x i) → Puts e (q - 2) 1 f e₁ → Puts e₁ q 40 g e₂ → Counts e₂ q true e₃ → PutsPacket e k x e₃
-  unfolding readByte
+      → ((i : ℕ) → i < 40 → g i ≡ readByte true 0 x i) → Puts e (q - 2) 1 f e₁ → Puts e₁ q 40 g e₂ → Counts e₂ q true e₃ → PutsPacket e k x e₃
   puts-odd e e₁ e₂ e₃ q f g is odd one read first second counts =
       record {
         long = counts .long ∙ second .long ∙ first .long;
-        one-more = λ d header n p h same zero held.
-            let carried : ℕ → ℕ = λ y. cond (eqb y (reach false k - 2)) (p k 1) (laidAt k p y) in
+        one-more = λ d header n p h same held.
             counted-turn d header e₂ e₃ n k p true h (sym (odd-is k odd))
             (put-holds header (streaming (partLaid n p k) (λ y. cond (eqb y (reach false k - 2)) (p k 1) (laidAt k p y))) d e₁ e₂
             (put-holds header (partLaid n p k) d e e₁ held (reach false k - 2) 1 f (λ y. cond (eqb y (reach false k - 2)) (p k 1) (laidAt k p y)) (omega arith)
@@ -77,7 +81,7 @@ module _ (k : ℕ) (x : ℕ → ℕ) where
             simp (ne-eqb y (reach false k - 2) other))
             (subst (λ (y : ℕ). Puts e (y - 2) 1 f e₁) is first))
             (reach false k) 40 g (laidAt (k + 1) p) (omega arith)
-            (λ i l. odd-put p k odd i l ∙ swapped-same p same i l ∙ sym (read i l))
+            (λ i l. read-put p k true (odd-is k odd) i l ∙ same-read true (p k) same i l ∙ sym (read i l))
             (λ y outside.
             by-equal y (reach false k - 2)
             (λ z. simp (eq-eqb y (reach false k - 2) z) (ap (laidAt (k + 1) p) z ∙ carried-put p k odd))
@@ -87,11 +91,6 @@ module _ (k : ℕ) (x : ℕ → ℕ) where
             (subst (λ (y : ℕ). Puts e₁ y 40 g e₂) is second))
             (subst (λ (y : ℕ). Counts e₂ y true e₃) is counts);
       }
-    where
-      swapped-same : (p : ℕ → ℕ → ℕ) → ((i : ℕ) → i < 42 → p k i ≡ x i) → (i : ℕ) → i < 40 → swappedRead (p k) i ≡ swappedRead x i
-      swapped-same p same i l =
-          by-equal (i % 2) 0 (λ even. simp (eq-eqb (i % 2) 0 even) (same (i + 3) (omega arith)))
-          (λ one. simp (ne-eqb (i % 2) 0 one) (same (i - 1) (omega arith)))
 
 -- the file of no packet yet
 pub none-yet : (header d e : List ℕ) (n : ℕ) (p : ℕ → ℕ → ℕ) (blocks : ℕ) → blocks ≡ (reach false n + 505) / 506

@@ -23,13 +23,12 @@ pub record Unswapped (x : ℕ → ℕ) (r : List ℕ) : Type 0 where
 -- packet k, of the bytes x, is put and counted: whatever file of n packets e holds the first k of, e′ holds one more of
 pub record PutsPacket (e : List ℕ) (k : ℕ) (x : ℕ → ℕ) (e′ : List ℕ) : Type 0 where
   pub long : length e′ ≡ length e
-  pub one-more : (d header : List ℕ) (n : ℕ) (p : ℕ → ℕ → ℕ) → k < n → ((i : ℕ) → i < 42 → p k i ≡ x i) → x 40 ≡ 0
+  pub one-more : (d header : List ℕ) (n : ℕ) (p : ℕ → ℕ → ℕ) → k < n → ((i : ℕ) → i < 42 → p k i ≡ x i)
       → Holds d header (partLaid n p k) e → Holds d header (partLaid n p (k + 1)) e′
 
--- what is asked before a file is laid out: a header of its size, so many sound packets and no more, a file within the limit, and room for it
+-- what is asked before a file is laid out: a header of its size, so many packets and no more, few enough for the limit, and room for it
 pub record Ready (header packets : List ℕ) (many : ℕ) (out : List ℕ) : Type 0 where
   pub supplied : length header ≡ 1536
   pub all : length packets ≡ 42 * many
-  pub sound : (k : ℕ) → k < many → byteIn packets k 40 ≡ 0
   pub few : many ≤ 6470444
   pub room : sizeFor (spLaid many (byteIn packets)) ≤ length out

@@ -74,14 +74,15 @@ fn unswapped(packets: &[u8], from: usize) -> [u8; 48]
 // For the crates above too. Puts the packet at this place of the list under a number, behind all that have a lower one, and counts it. Where it is
 // swapped its byte 1 goes into the read before it.
 pub fn put_packet(out: &mut [u8], number: usize, packets: &[u8], from: usize)
-    requires there { ⌜ (from + 42 ≤ length (now packets)) × (getD (now packets) (from + 40) 0 ≡ 0) ⌝ }
+    requires there { ⌜ from + 42 ≤ length (now packets) ⌝ }
     requires room { ⌜ (number < 2 ^ 24) × (1536 + 512 * ((reach false (number + 1) + 505) / 506) ≤ length (now out)) ⌝ }
     requires few { ⌜ getD (now out) (countAt (reach false number)) 0 < 255 ⌝ }
     ensures { λ _. ⌜ PutsPacket (now (out .entry)) number (λ i. getD (now (packets .entry)) (from + i) 0) (now (out .exit)) ⌝ }
 {
     let place = packets::reach(false, number);
     if number % 2 == 0 {
-        laying::put(out, StreamPlace(place), packets, from, PACKET);
+        let read = packets::packet_bytes(packets, from, false, 0);
+        laying::put(out, StreamPlace(place), &read, 0, PACKET);
         laying::count(out, StreamPlace(place), false);
         return;
     }

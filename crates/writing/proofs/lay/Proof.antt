@@ -43,7 +43,7 @@ put-packet-requires c κs =
     let start = b .before .before .before .before .before .before in
     let pre = start .pre in
     let less = i .loop-test .taken in (
-      (omega (arith, pre .all, less), pre .sound (l .k) less),
+      omega (arith, pre .all, less),
       (
         (omega (arith, pre .few, less), omega (arith, pre .room, less, l .inv .1 .long, b .begin .ensures .long)),
         omega (arith, few-there _ _ _ _ (l .k) _ less (l .inv .1)),
@@ -61,8 +61,7 @@ loop-again c =
     let k = c .before .before in
     let i = k .before .before in
     let l = i .before .loop in
-    let start = i .before .before .before .before .before .before .before .before .before .before in
-    (search needs, k .put-packet .ensures .one-more _ _ _ _ (i .loop-test .taken) (λ j h. refl) (start .pre .sound (l .k) (i .loop-test .taken)) (l .inv .1))
+    (search needs, k .put-packet .ensures .one-more _ _ _ _ (i .loop-test .taken) (λ j h. refl) (l .inv .1))
 
 same-length : tie.Need-same-length Inv-loop μ-loop
 same-length c = search needs
