@@ -4,4 +4,5 @@ pub mod Laying
 pub mod Turns
 pub mod Outcome
 pub mod ReadBack
+pub mod Described
 pub mod Theorems

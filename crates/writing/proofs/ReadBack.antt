@@ -41,7 +41,7 @@ module _ (n : ℕ) (p : ℕ → ℕ → ℕ) (s : ℕ → ℕ) (w : Walk) (place
   pub swap-at : (k : ℕ) → steps s w k .swap ≡ parity false k
   swap-at k = steps-swap s w k ∙ ap (λ (x : Bool). parity x k) swap
 
-  place-at : (k : ℕ) → steps s w k .place ≡ reach false k
+  pub place-at : (k : ℕ) → steps s w k .place ≡ reach false k
   place-at k = steps-place s w k ∙ rw (place, swap) (omega arith)
 
   -- byte 1 of a swapped packet is carried to it
@@ -119,6 +119,11 @@ module _ (header : List ℕ) (n : ℕ) (p : ℕ → ℕ → ℕ) where
     swap-back =
         ap (λ (w : Walk). w .swap) (stands k h)
         ∙ swap-at n p (streamAt file 1536 blocks) (runBegin 0 (ds2Run file 1536 blocks)) refl (flag-off (omega arith)) zeros as-laid k
+
+    pub place-back : walkAt readingBack k .place ≡ reach false k
+    place-back =
+        ap (λ (w : Walk). w .place) (stands k h)
+        ∙ place-at n p (streamAt file 1536 blocks) (runBegin 0 (ds2Run file 1536 blocks)) refl (flag-off (omega arith)) zeros as-laid k
 
     pub full-back : fileCountAt readingBack k ≡ readSize (parity false k)
     full-back =

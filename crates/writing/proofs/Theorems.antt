@@ -1,7 +1,7 @@
 -- What holds of `write_ds2_sp` for every header, every list of packets and all lent memory, beyond its contract or drawn from it. Each
 -- statement stands under a sentence that says it. Assumes nothing.
 use Prim.Native.Nat.{ℕ, _+_, _*_, _/_, _%_, _≤_, _<_}
-use mathlib.Core.Path.{_≡_, refl, sym, ap, _∙_}
+use mathlib.Core.Path.{_≡_, refl, sym, ap, _∙_, subst}
 use mathlib.Core.List.{List}
 use mathlib.Core.Bool.{true, false}
 use native.Mathlib.Omega.{arith}
@@ -38,7 +38,9 @@ use Rattle.writing.specs.declared.Written.the-variants.{Bytes, Refused}
 use Rattle.writing.specs.Laying.{manyIn, byteIn, listLaid}
 use Rattle.writing.specs.Outcome.{soundIn, sizeOf, writtenSize, outAfter, writtenSays, Writes}
 use Rattle.writing.specs.ReadBack.{ReadsBack}
+use Rattle.writing.specs.Described.{Described}
 use Rattle.writing.proofs.Outcome.{sound-each}
+use Rattle.writing.proofs.Described.{laid-described}
 use Rattle.writing.proofs.ReadBack.{readingBack, total-back, byte-back, swap-back, full-back, type-is, is-read-back}
 use Rattle.writing.proofs.write_ds2_sp.Kinds as writes
 use Rattle.writing.proofs.write_ds2_sp.Reads as writes-reads
@@ -119,13 +121,16 @@ module _ (header packets out out′ : List ℕ) (answer : Written) (w : Writes h
     zeros : (k : ℕ) → k < manyIn packets → byteIn packets k 40 ≡ 0
     zeros k h = sound-each packets k (omega (arith, said .all))
 
+    reads : ds2Reading (take size out′) ≡ answers (readingBack header n (byteIn packets))
+    reads = ap ds2Reading (written-is .0) ∙ is-read-back header n (byteIn packets) (header-is header (said .supplied)) (said .small)
+
     -- The file is read whole as DS2 SP, and the reading has the packets of the list, in the same number and order, each with all the bytes of
     -- its read.
     pub written-reads-back : (r : Reading) × ReadsBack packets (take size out′) r
     written-reads-back = (
       readingBack header n (byteIn packets),
       record {
-        is-read = ap ds2Reading (written-is .0) ∙ is-read-back header n (byteIn packets) (header-is header (said .supplied)) (said .small);
+        is-read = reads;
         many = total-back header n (byteIn packets);
         same = λ k h. same k (omega (arith, total-back header n (byteIn packets)));
         joined = joined;
@@ -153,6 +158,13 @@ module _ (header packets out out′ : List ℕ) (answer : Written) (w : Writes h
             let here : 42 * (j / 42) + j % 42 ≡ j = omega arith in
             ap (λ (i : ℕ). getD packets i 0) (sym here)
             ∙ sym (byte-back header n (byteIn packets) zeros (j / 42) (omega (arith, total-back header n (byteIn packets))) (j % 42) (omega arith))))
+
+    -- And the file is as the rules describe it, in its reading's own words: packets are counted in the block that they begin in, a block's header
+    -- tells where and how the first of them is read, and zeros lie behind the last.
+    pub written-is-described : (r : Reading) → ds2Reading (take size out′) ≡ answers r → Described (take size out′) r
+    written-is-described r is =
+        for-the-answer (λ x. Described (take size out′) x) (sym reads ∙ is)
+        (subst (λ (file : List ℕ). Described file (readingBack header n (byteIn packets))) (sym (written-is .0)) (laid-described header n (byteIn packets) zeros))
 
     -- So the call that reads it whole, with room for the packets, answers with their number, puts the list over the front of its output, and
     -- their full counts into its table.

@@ -3,5 +3,6 @@ pub mod Reads
 pub mod Laying
 pub mod Outcome
 pub mod ReadBack
+pub mod Described
 -- what only contracts of inner functions speak of
 pub mod Inner
