@@ -17,7 +17,7 @@ use Rattle.tables.proofs.Counting.{none-such}
 use Rattle.tables.proofs.Cases.{by-order, by-equal}
 use Rattle.blocks.specs.Places.{fileOf, blockAt}
 use Rattle.laying.specs.Laid.{Laid, blocksFor, sizeFor, blockOf, countIn, firstIn, flagByte, placeByte, headByte, fileByte}
-use Rattle.laying.specs.Putting.{silentByte, begunByte, Puts, headAt, countAt, counted, Counts, Holds, streaming, oneMore}
+use Rattle.laying.specs.Inner.{silentByte, begunByte, Puts, headAt, countAt, counted, Counts, Holds, streaming, oneMore}
 use Rattle.laying.proofs.Frames.{first-more, Apart, ascends, first-splits, begins-in}
 use Rattle.laying.proofs.Files.{front-is, head-is, body-is}
 

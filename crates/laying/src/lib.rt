@@ -13,7 +13,7 @@ ghost use lib.Dec.{eqb};
 ghost use Rattle.tables.specs.Lent.{Leaves};
 ghost use Rattle.laying.specs.Header.{isHeader};
 ghost use Rattle.laying.specs.Laid.{flagByte, placeByte};
-ghost use Rattle.laying.specs.Putting.{silentByte, begunByte, Puts, headAt, countAt, Counts};
+ghost use Rattle.laying.specs.Inner.{silentByte, begunByte, Puts, headAt, countAt, Counts};
 
 // The size of the header that a caller supplies, and so where the audio starts.
 pub const HEADER: usize = 1536;

@@ -16,7 +16,7 @@ use Rattle.refusals.specs.Numbers.{numbered}
 use Rattle.refusals.specs.Said.{Said, answers, refuses}
 use Rattle.packets.specs.Walk.{reach}
 use Rattle.laying.specs.Header.{isHeader}
-use Rattle.laying.specs.Putting.{Holds}
+use Rattle.laying.specs.Inner.{Holds}
 use Rattle.laying.proofs.Admitted.{header-is}
 use Rattle.writing.specs.declared.Written.{Written}
 use Rattle.writing.specs.declared.Written.the-variants.{Bytes, Refused}

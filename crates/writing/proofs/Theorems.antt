@@ -68,6 +68,12 @@ accepted header packets room size e =
       size-is = let same : sizeOf packets ≡ size = cc (four .1) in sym same;
     }
 
+-- The longest list has 6,470,444 packets, and its file exactly as many bytes as the limit: no other list that is as long or shorter has more,
+-- and every longer one has.
+pub longest-list : (packets : List ℕ) → (manyIn packets ≤ 6470444 → sizeOf packets ≤ limit) × (manyIn packets ≡ 6470444 → sizeOf packets ≡ limit)
+    × (6470444 < manyIn packets → limit < sizeOf packets)
+longest-list packets = (λ few. omega arith, λ most. omega arith, λ over. omega arith)
+
 module _ (header packets out out′ : List ℕ) (answer : Written) (w : Writes header packets out out′ answer) where
   -- A refused call changes nothing.
   pub refused-changes-nothing : (why : Refusal) → writtenSays answer ≡ refusal why → out′ ≡ out

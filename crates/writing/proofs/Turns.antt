@@ -15,7 +15,7 @@ use Rattle.tables.proofs.Cases.{by-equal, never}
 use Rattle.packets.specs.Packet.{readSize}
 use Rattle.packets.specs.Walk.{reach, parity}
 use Rattle.laying.specs.Laid.{countIn, headByte}
-use Rattle.laying.specs.Putting.{begunByte, Puts, Counts, countAt, Holds, streaming, oneMore}
+use Rattle.laying.specs.Inner.{begunByte, Puts, Counts, countAt, Holds, streaming, oneMore}
 use Rattle.laying.proofs.Frames.{few-in}
 use Rattle.laying.proofs.Files.{head-is}
 use Rattle.laying.proofs.Steps.{put-beside, begun-is, put-holds, count-holds}

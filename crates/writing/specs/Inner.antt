@@ -6,7 +6,7 @@ use mathlib.Core.Path.{_≡_}
 use mathlib.Core.List.{List}
 use lib.ListN.{length, getD}
 use Rattle.laying.specs.Laid.{sizeFor}
-use Rattle.laying.specs.Putting.{Holds}
+use Rattle.laying.specs.Inner.{Holds}
 use Rattle.writing.specs.Reads.{swappedRead}
 use Rattle.writing.specs.Laying.{partLaid, spLaid, byteIn}
 

@@ -11,7 +11,7 @@ ghost use Prim.Native.Nat.{_+_, _*_, _/_, _≤_, _<_, _^_};
 ghost use mathlib.Core.Bool.{false};
 ghost use lib.ListN.{length, getD};
 ghost use Rattle.packets.specs.Walk.{reach};
-ghost use Rattle.laying.specs.Putting.{countAt, Holds};
+ghost use Rattle.laying.specs.Inner.{countAt, Holds};
 ghost use Rattle.writing.specs.Laying.{spLaid, manyIn, byteIn};
 ghost use Rattle.writing.specs.Outcome.{soundIn, Writes};
 ghost use Rattle.writing.specs.Inner.{Shifted, Unswapped, PutsPacket, Ready};

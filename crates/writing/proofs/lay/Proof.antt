@@ -3,7 +3,7 @@
 use Prim.Native.Nat.{_-_, _≤_}
 use mathlib.Core.Path.{refl}
 use native.Mathlib.Omega.{arith}
-use Rattle.laying.specs.Putting.{Holds}
+use Rattle.laying.specs.Inner.{Holds}
 use Rattle.writing.specs.Laying.{partLaid, byteIn}
 use Rattle.writing.proofs.Turns.{none-yet, few-there, laid-all}
 use borrow.Author.Needs.{needs}

@@ -1,6 +1,6 @@
--- What a writer's steps do to the lent output: silent blocks are laid; bytes are put at a place of the payload stream, over a block's end
--- where need be; a frame is counted in the header of the block that it begins in. And what the output holds between them.
--- Assumes nothing.
+-- What only contracts of inner functions speak of: what a writer's steps do to the lent output, which are silent blocks laid, bytes put at a
+-- place of the payload stream, over a block's end where need be, and a frame counted in the header of the block that it begins in; and what
+-- the output holds between them. Assumes nothing.
 use Prim.Native.Nat.{ℕ, suc, _+_, _-_, _/_, _%_, _<_}
 use mathlib.Core.Path.{_≡_}
 use mathlib.Core.List.{List}
