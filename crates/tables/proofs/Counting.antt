@@ -72,3 +72,17 @@ leading-such (suc n) such k h =
     by-zero : (k : ℕ) → (k ≡ 0 → such k ≡ true) → ((j : ℕ) → k ≡ suc j → such k ≡ true) → such k ≡ true
     by-zero zero none some = none refl
     by-zero (suc j) none some = some j refl
+
+pub leading-most : (n : ℕ) (such : ℕ → Bool) → leading n such ≤ n
+unfolding leading
+leading-most zero such = omega arith
+leading-most (suc n) such =
+    by-test (such 0) (λ first. simp first (omega (arith, leading-most n (λ k. such (suc k))))) (λ other. simp other (omega arith))
+
+-- and the next is not, if there is one
+pub leading-not : (n : ℕ) (such : ℕ → Bool) → leading n such < n → such (leading n such) ≡ false
+unfolding leading
+leading-not zero such h = absurd (not-suc-le-zero h)
+leading-not (suc n) such h =
+    by-test (such 0)
+    (λ first. simp first (leading-not n (λ k. such (suc k)) (omega (arith, rw first at h)))) (λ other. simp other)

@@ -49,7 +49,7 @@ module _ (header : List ℕ) (n : ℕ) (p : ℕ → ℕ → ℕ) (zeros : (k : �
       let here : reach false k / 506 ≡ b = omega (arith, begins .0, begins .1, place-is k less) in (
         by-order k (firstIn l b) (λ before. omega (arith, first-splits l reads-apart b .below k before, here)) (λ from. omega (arith, upto b (omega arith))),
         by-order k (firstIn l (b + 1)) (λ before. omega (arith, upto (b + 1) (omega arith)))
-        (λ from. omega (arith, first-splits l reads-apart (b + 1) .rest k from less, here)),
+            (λ from. omega (arith, first-splits l reads-apart (b + 1) .rest k from less, here)),
       )
 
   only-counted : (b k : ℕ) → b < blocksOf file → announcedIn file 1536 b ≤ k → k < announcedIn file 1536 (b + 1) → BeginsIn reading b k

@@ -7,10 +7,11 @@ use mathlib.Core.Bool.{true, false}
 use native.Mathlib.Omega.{arith}
 use borrow.Author.Tests.{eq-eqb, ne-eqb, eqb-true, le-leb, lt-leb}
 use lib.ListN.{length}
+use lib.Dec.{eqb}
 use Rattle.tables.specs.Counting.{leading}
-use Rattle.tables.proofs.Counting.{leading-is, leading-such}
+use Rattle.tables.proofs.Counting.{leading-is, leading-such, leading-most, leading-not}
 use Rattle.tables.proofs.Lent.{leaves-to, leaves-over}
-use Rattle.tables.proofs.Cases.{by-equal}
+use Rattle.tables.proofs.Cases.{by-equal, never}
 use Rattle.blocks.specs.Places.{limit}
 use Rattle.refusals.specs.Numbers.{numbered}
 use Rattle.refusals.specs.Said.{Said, answers, refuses}
@@ -38,6 +39,16 @@ sound-more packets k all here j h = by-equal j k (λ same. rw same here) (λ oth
 pub sound-each : (packets : List ℕ) (k : ℕ) → k < soundIn packets → byteIn packets k 40 ≡ 0
 unfolding soundIn
 sound-each packets k h = eqb-true (byteIn packets k 40) 0 (leading-such (manyIn packets) _ k h)
+
+-- they are as many as there are or fewer, and where they are fewer the next is not sound
+pub sound-most : (packets : List ℕ) → soundIn packets ≤ manyIn packets
+unfolding soundIn
+sound-most packets = leading-most (manyIn packets) _
+
+pub sound-not : (packets : List ℕ) → soundIn packets < manyIn packets → byteIn packets (soundIn packets) 40 ≡ 0 → ⊥
+unfolding soundIn
+sound-not packets h zero =
+    never (eq-eqb (byteIn packets (soundIn packets) 40) 0 zero) (leading-not (manyIn packets) (λ k. eqb (byteIn packets k 40) 0) h)
 
 module _ (header packets out : List ℕ) where
   -- an outcome that is said so
