@@ -1,6 +1,6 @@
 -- A writer's steps on what its output holds: silent blocks are the file of no frame; bytes that are put change the stream and nothing
 -- else; a frame that is counted is one frame more. Assumes nothing.
-use Prim.Native.Nat.{ℕ, suc, _+_, _*_, _-_, _/_, _%_, _≤_, _<_, min}
+use Prim.Native.Nat.{ℕ, _+_, _*_, _-_, _/_, _%_, _≤_, _<_, min}
 use mathlib.Core.Path.{_≡_, refl, sym, ap, _∙_, subst}
 use mathlib.Core.List.{List}
 use mathlib.Core.Bool.{Bool, cond}
@@ -9,7 +9,7 @@ use native.Mathlib.Omega.{arith}
 use borrow.Author.Tests.{eq-eqb, ne-eqb, lt-ltb, le-ltb}
 use lib.ListN.{length, getD, set, length-set}
 use lib.Seq.{getD-set-same, getD-set-other}
-use lib.Dec.{ltb, eqb}
+use lib.Dec.{eqb}
 use Rattle.tables.specs.Lent.{Leaves}
 use Rattle.tables.specs.Counting.{howMany}
 use Rattle.tables.proofs.Lent.{leaves-none, leaves-more, leaves-first, leaves-join, leaves-again, leaves-as, leaves-to, leaves-at, leaves-kept}

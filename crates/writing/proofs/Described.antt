@@ -1,12 +1,11 @@
 -- A file laid out from packets is as the rules describe it.
 -- Assumes nothing.
 use Prim.Native.Nat.{ℕ, _+_, _*_, _/_, _%_, _≤_, _<_}
-use mathlib.Core.Path.{_≡_, refl, sym, ap, _∙_}
+use mathlib.Core.Path.{_≡_, sym, ap, _∙_}
 use mathlib.Core.List.{List}
-use mathlib.Core.Bool.{Bool, false}
+use mathlib.Core.Bool.{false}
 use native.Mathlib.Omega.{arith}
 use borrow.Author.Tests.{eq-eqb, lt-ltb, le-ltb}
-use lib.ListN.{length}
 use Rattle.tables.proofs.Cases.{by-order, by-equal, never}
 use Rattle.blocks.specs.Places.{streamAt}
 use Rattle.blocks.specs.Headers.{headerByte, firstOf, countOf, announcedIn}

@@ -8,7 +8,6 @@ use native.Mathlib.Omega.{arith}
 use borrow.Author.Tests.{eq-eqb, ne-eqb, eqb-true, le-leb, lt-leb}
 use lib.ListN.{length}
 use lib.Dec.{eqb}
-use Rattle.tables.specs.Counting.{leading}
 use Rattle.tables.proofs.Counting.{leading-is, leading-such, leading-most, leading-not}
 use Rattle.tables.proofs.Lent.{leaves-to, leaves-over}
 use Rattle.tables.proofs.Cases.{by-equal, never}
@@ -21,7 +20,7 @@ use Rattle.laying.specs.Inner.{Holds}
 use Rattle.laying.proofs.Admitted.{header-is}
 use Rattle.writing.specs.declared.Written.{Written}
 use Rattle.writing.specs.declared.Written.the-variants.{Bytes, Refused}
-use Rattle.writing.specs.Laying.{manyIn, byteIn, spLaid, listLaid}
+use Rattle.writing.specs.Laying.{manyIn, byteIn, spLaid}
 use Rattle.writing.specs.Outcome.{soundIn, sizeOf, writtenSize, outAfter, writtenSays, Writes}
 use Rattle.writing.specs.Inner.{Ready}
 

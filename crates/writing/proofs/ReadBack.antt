@@ -1,15 +1,13 @@
 -- A walk over a stream into which packets were laid gives the packets again, and a file laid out from packets is read so.
 -- Assumes nothing.
-use Prim.Native.Nat.{ℕ, zero, suc, _+_, _*_, _/_, _%_, _≤_, _<_}
+use Prim.Native.Nat.{ℕ, zero, suc, _+_, _*_, _%_, _≤_, _<_}
 use mathlib.Core.Path.{_≡_, refl, sym, ap, _∙_}
 use mathlib.Core.List.{List, []}
 use mathlib.Core.Bool.{Bool, true, false}
 use native.Mathlib.Numerals.{add-one}
 use native.Mathlib.Omega.{arith}
 use borrow.Author.Tests.{lt-ltb, le-ltb}
-use lib.ListN.{length, getD, take, drop}
-use Rattle.tables.specs.Table.{table}
-use Rattle.tables.proofs.Table.{same-table}
+use lib.ListN.{length}
 use Rattle.tables.proofs.Cases.{by-equal, by-order, never}
 use Rattle.blocks.specs.Places.{limit, wholeBlocks, streamAt}
 use Rattle.blocks.specs.Headers.{flagOf, swapOf, typeOf, announcedIn}
@@ -24,7 +22,7 @@ use Rattle.packets.proofs.Walk.{steps-place, steps-swap, steps-carry}
 use Rattle.packets.proofs.Longer.{Agree, same-packet}
 use Rattle.sp.specs.Runs.{runBegin}
 use Rattle.sp.specs.ReadLists.{ds2Run, ds2Runs}
-use Rattle.sp.specs.Readings.{Reading, total, walkAt, packetAt, fileCountAt, readingOf, ds2Reading}
+use Rattle.sp.specs.Readings.{Reading, total, walkAt, fileCountAt, readingOf, ds2Reading}
 use Rattle.sp.proofs.Runs.{stands-first}
 use Rattle.sp.proofs.ReadLists.{ds2-packets}
 use Rattle.laying.specs.Laid.{blocksFor, sizeFor, countIn, headByte, laidFile}

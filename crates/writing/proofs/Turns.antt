@@ -1,13 +1,13 @@
 -- A packet put and counted: where the output holds the file of the first k packets, it then holds that of one more.
 -- Assumes nothing.
-use Prim.Native.Nat.{ℕ, suc, _+_, _*_, _-_, _/_, _%_, _≤_, _<_}
+use Prim.Native.Nat.{ℕ, _+_, _*_, _-_, _/_, _%_, _≤_, _<_}
 use mathlib.Core.Path.{_≡_, refl, sym, ap, _∙_, subst}
 use mathlib.Core.List.{List}
 use mathlib.Core.Bool.{Bool, true, false, cond}
 use native.Mathlib.Numerals.{add-one}
 use native.Mathlib.Omega.{arith}
 use borrow.Author.Tests.{eq-eqb, ne-eqb, le-ltb}
-use lib.ListN.{length, getD}
+use lib.ListN.{getD}
 use lib.Dec.{eqb}
 use Rattle.tables.specs.Lent.{Leaves}
 use Rattle.tables.proofs.Lent.{leaves-to, leaves-at, leaves-twice}
@@ -15,7 +15,7 @@ use Rattle.tables.proofs.Cases.{by-equal, never}
 use Rattle.packets.specs.Packet.{readSize}
 use Rattle.packets.specs.Walk.{reach, parity}
 use Rattle.laying.specs.Laid.{countIn, headByte}
-use Rattle.laying.specs.Inner.{begunByte, Puts, Counts, countAt, Holds, streaming, oneMore}
+use Rattle.laying.specs.Inner.{begunByte, Puts, Counts, countAt, Holds, streaming}
 use Rattle.laying.proofs.Frames.{few-in}
 use Rattle.laying.proofs.Files.{head-is}
 use Rattle.laying.proofs.Steps.{put-beside, begun-is, put-holds, count-holds}

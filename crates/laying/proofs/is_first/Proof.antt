@@ -1,8 +1,6 @@
 -- `laying::is_first` meets its contract: by the tests in their order.
 -- Assumes nothing.
-use mathlib.Core.Path.{refl}
 use borrow.Author.Tests.{eq-eqb, ne-eqb}
-use borrow.Author.Needs.{needs}
 use Rattle.laying.proofs.is_first.Statement.{statement}
 use Rattle.laying.proofs.is_first.Tie as tie
 
