@@ -3,7 +3,7 @@
 use Prim.Native.Nat.{ℕ, _+_, _*_, _-_, _/_, _%_, _≤_, _<_, _^_}
 use mathlib.Core.Path.{_≡_, refl, ap, _∙_}
 use mathlib.Core.List.{List}
-use mathlib.Core.Bool.{Bool, true, false, _&&_}
+use mathlib.Core.Bool.{Bool, true, false}
 use native.Mathlib.Nat.{sub-zero}
 use native.Mathlib.Omega.{arith}
 use borrow.Author.Tests.{le-leb, lt-leb, leb-true, leb-false}
@@ -12,6 +12,7 @@ use lib.Dec.{leb}
 use Rattle.tables.specs.Lent.{Leaves, over}
 use Rattle.tables.proofs.Lent.{leaves-join, leaves-as, leaves-to, over-long}
 use Rattle.tables.proofs.Parts.{part-is}
+use Rattle.tables.proofs.Tests.{both-hold}
 use Rattle.blocks.specs.Places.{fileOf, streamAt}
 use Rattle.blocks.proofs.Stream.{together}
 use Rattle.refusals.specs.declared.Refusal.{Refusal}
@@ -61,11 +62,6 @@ module _ (rec : Recording) (q size : ℕ) where
 
   pub stands-in-scratch : isInside q size ≡ false → answers inScratch ≡ answers (standIn rec q size)
   stands-in-scratch h = simp h
-
--- both of two tests hold
-both-hold : (a b : Bool) → (a && b) ≡ true → (a ≡ true) × (b ≡ true)
-both-hold true b e = (refl, e)
-both-hold false b e = (e, cc)
 
 -- the ways of a request
 module _ (f : List ℕ) (q size room : ℕ) where

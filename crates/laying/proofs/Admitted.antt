@@ -1,14 +1,15 @@
 -- A file laid out is admitted, whatever was laid: its magic and audio start are the header's, and its blocks are those laid.
 -- Assumes nothing.
-use Prim.Native.Nat.{ℕ, _-_, _≤_, _<_}
+use Prim.Native.Nat.{ℕ, _≤_, _<_}
 use mathlib.Core.Path.{_≡_, refl, sym, ap, _∙_}
 use mathlib.Core.List.{List}
-use mathlib.Core.Bool.{Bool, true, false, _&&_, _||_}
+use mathlib.Core.Bool.{Bool, true, false, _||_}
 use mathlib.Core.Logic.{_⊎_, inl, inr, ⊎-elim}
 use native.Mathlib.Omega.{arith}
 use borrow.Author.Tests.{eqb-true, ne-eqb, le-ltb}
 use lib.ListN.{length, getD}
 use lib.Dec.{eqb}
+use Rattle.tables.proofs.Tests.{both-hold}
 use Rattle.blocks.specs.Places.{limit}
 use Rattle.magic.specs.declared.Magic.the-variants.{Ds2}
 use Rattle.magic.specs.Magics.{magicOf, spells, ds2By}
@@ -42,11 +43,6 @@ pub record Header (header : List ℕ) : Type 0 where
   pub long : length header ≡ 1536
   pub magic : magicOf header ≡ Ds2
   pub fixed : getD header 0 0 < 7
-
-both-hold : (a b : Bool) → (a && b) ≡ true → (a ≡ true) × (b ≡ true)
-both-hold true true e = (refl, refl)
-both-hold true false e = (refl, e)
-both-hold false b e = (e, absurd (let z : _≡_ {A = ℕ} 0 1 = cc in omega arith))
 
 one-holds : (a b : Bool) → (a || b) ≡ true → (a ≡ true) ⊎ (b ≡ true)
 one-holds true b e = inl refl

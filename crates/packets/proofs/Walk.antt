@@ -40,7 +40,8 @@ parity-flips swap k =
     (λ even. let odd : suc k % 2 ≡ 0 → ⊥ = λ e. omega arith in simp (eq-eqb _ _ even, ne-eqb _ _ odd))
     (λ odd. let even : suc k % 2 ≡ 0 = omega arith in simp (ne-eqb _ _ odd, eq-eqb _ _ even, Bool·not-not))
 
-reach-more : (swap : Bool) (k : ℕ) → reach swap (suc k) ≡ reach swap k + readSize (parity swap k)
+-- one packet further
+pub reach-more : (swap : Bool) (k : ℕ) → reach swap (suc k) ≡ reach swap k + readSize (parity swap k)
 reach-more true k =
     by-equal (k % 2) 0 (λ even. simp (eq-eqb _ _ even) (omega arith)) (λ odd. simp (ne-eqb _ _ odd) (omega arith))
 reach-more false k =

@@ -12,6 +12,7 @@ use Rattle.blocks.specs.Headers.{headerByte, firstOf, countOf, announcedIn}
 use Rattle.blocks.proofs.Places.{stream-past}
 use Rattle.packets.specs.Packet.{readSize}
 use Rattle.packets.specs.Walk.{reach, parity}
+use Rattle.packets.proofs.Walk.{reach-more}
 use Rattle.sp.specs.Readings.{Reading, total, walkAt}
 use Rattle.laying.specs.Laid.{Laid, blocksFor, countIn, firstIn, flagByte, headByte, laidFile}
 use Rattle.laying.proofs.Frames.{first-more, first-splits, begins-in}
@@ -19,7 +20,7 @@ use Rattle.laying.proofs.Files.{file-long, head-at, count-at, announced-is, str
 use Rattle.writing.specs.Reads.{readByte}
 use Rattle.writing.specs.Laying.{laidRead, laidAt, spLaid}
 use Rattle.writing.specs.Described.{blocksOf, BeginsIn, Described}
-use Rattle.writing.proofs.Laying.{odd-is, reach-next, reads-apart, in-read, laid-in}
+use Rattle.writing.proofs.Laying.{odd-is, reads-apart, in-read, laid-in}
 use Rattle.writing.proofs.ReadBack.{readingBack, total-back, swap-back, place-back}
 
 module _ (header : List ℕ) (n : ℕ) (p : ℕ → ℕ → ℕ) (zeros : (k : ℕ) → k < n → p k 40 ≡ 0) where
@@ -119,7 +120,7 @@ module _ (header : List ℕ) (n : ℕ) (p : ℕ → ℕ → ℕ) (zeros : (k : �
       stream-laid q h
       ∙ in-read q
       (λ k j m is.
-      let behind : n ≤ k = by-order k n (λ before. omega (arith, is, reach-next k)) (λ from. from) in
+      let behind : n ≤ k = by-order k n (λ before. omega (arith, is, reach-more false k)) (λ from. from) in
       rw is (laid-in n p k j m ∙ simp (le-ltb k n behind))))
       (λ h. stream-past file 1536 (blocksOf file) q h)
 

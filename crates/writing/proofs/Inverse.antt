@@ -13,7 +13,7 @@ use Rattle.tables.proofs.Cases.{by-equal}
 use Rattle.packets.specs.Packet.{readSize, packetByte, carryAfter}
 use Rattle.packets.specs.Inner.{Blends}
 use Rattle.writing.specs.Reads.{swappedRead, readByte}
-use Rattle.writing.specs.Inner.{Shifted, Unswapped}
+use Rattle.writing.specs.Inner.{OneOn, SwappedRead}
 
 -- a packet whose byte 40 is 0 is what its read gives, if a swapped one's byte 1 is carried to it
 pub gives-back : (swap : Bool) (carry carried : ℕ) (x : ℕ → ℕ) (i : ℕ) → i < 42 → x 40 ≡ 0 → (swap ≡ true → carry ≡ x 1)
@@ -57,8 +57,8 @@ laid-again true carry c j h =
 laid-again false carry c j h = by-equal j 40 (λ e. simp (eq-eqb j 40 e) (ap c (sym e))) (λ forty. simp (ne-eqb j 40 forty))
 
 -- a packet one place on, taken 4 on at even places and as it stands at odd ones, is its swapped read
-pub blend-unswaps : (x : ℕ → ℕ) (v r : List ℕ) → Shifted x v → Blends v r → Unswapped x r
-blend-unswaps x v r shifted blends = record { long = blends .long; read = read }
+pub blend-reads : (x : ℕ → ℕ) (v r : List ℕ) → OneOn x v → Blends v r → SwappedRead x r
+blend-reads x v r one-on blends = record { long = blends .long; read = read }
   where
     read : (j : ℕ) → j < 40 → getD r j 0 ≡ swappedRead x j
     read j h =
@@ -66,10 +66,10 @@ blend-unswaps x v r shifted blends = record { long = blends .long; read = read }
         ∙ by-equal (j % 2) 0
         (λ even.
         let there : j + 4 ≡ 1 + (j + 3) = omega arith in
-        simp (eq-eqb (j % 2) 0 even) (ap (λ (i : ℕ). getD v i 0) there ∙ shifted .at (j + 3) (omega arith)))
+        simp (eq-eqb (j % 2) 0 even) (ap (λ (i : ℕ). getD v i 0) there ∙ one-on .at (j + 3) (omega arith)))
         (λ odd.
         let there : j ≡ 1 + (j - 1) = omega arith in
-        simp (ne-eqb (j % 2) 0 odd) (ap (λ (i : ℕ). getD v i 0) there ∙ shifted .at (j - 1) (omega arith)))
+        simp (ne-eqb (j % 2) 0 odd) (ap (λ (i : ℕ). getD v i 0) there ∙ one-on .at (j - 1) (omega arith)))
 
 -- the two reads as they are gathered, from the front of an array
 pub plain-gathered : (x : ℕ → ℕ) (r : List ℕ) → r ≡ table 42 (packetByte false 0 x) → (i : ℕ) → i < 42 → getD r (0 + i) 0 ≡ readByte false 0 x i
@@ -78,7 +78,7 @@ plain-gathered x r is i h =
     let front : 0 + i ≡ i = omega arith in
     ap (λ (j : ℕ). getD r j 0) front ∙ ap (λ (l : List ℕ). getD l i 0) is ∙ table-at 42 (packetByte false 0 x) i h
 
-pub swapped-gathered : (x : ℕ → ℕ) (r : List ℕ) → Unswapped x r → (i : ℕ) → i < 40 → getD r (0 + i) 0 ≡ readByte true 0 x i
+pub swapped-gathered : (x : ℕ → ℕ) (r : List ℕ) → SwappedRead x r → (i : ℕ) → i < 40 → getD r (0 + i) 0 ≡ readByte true 0 x i
 unfolding readByte
 swapped-gathered x r gathered i h =
     let front : 0 + i ≡ i = omega arith in

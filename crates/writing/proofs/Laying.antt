@@ -8,6 +8,7 @@ use borrow.Author.Tests.{eq-eqb, ne-eqb, lt-ltb, le-ltb}
 use Rattle.tables.proofs.Cases.{by-equal, by-order, never}
 use Rattle.packets.specs.Packet.{readSize}
 use Rattle.packets.specs.Walk.{reach, parity}
+use Rattle.packets.proofs.Walk.{reach-more}
 use Rattle.laying.proofs.Frames.{Apart}
 use Rattle.writing.specs.Reads.{readByte}
 use Rattle.writing.specs.Laying.{carriedOn, laidRead, laidAt}
@@ -18,10 +19,6 @@ even-is k e = simp (eq-eqb (k % 2) 0 e)
 
 pub odd-is : (k : ℕ) → (k % 2 ≡ 0 → ⊥) → parity false k ≡ true
 odd-is k e = simp (ne-eqb (k % 2) 0 e)
-
-pub reach-next : (k : ℕ) → reach false k + readSize (parity false k) ≡ reach false (suc k)
-reach-next k =
-    by-equal (k % 2) 0 (λ even. omega (arith, ap readSize (even-is k even))) (λ odd. omega (arith, ap readSize (odd-is k odd)))
 
 pub reads-apart : Apart (reach false)
 reads-apart = record { next = λ k. omega arith }
@@ -98,7 +95,7 @@ module _ (p : ℕ → ℕ → ℕ) (k : ℕ) where
       (laid-in (k + 1) p m j h
       ∙ read-kept m j (λ same. outside (omega (arith, ap (reach false) same)) (omega (arith, is, ap (λ (i : ℕ). reach false i + readSize (parity false i)) same)))
       (λ next forty plain.
-      carried (odd-is k (λ even. omega (arith, next, even-number m plain))) (omega (arith, is, reach-next m, ap (reach false) next, ap readSize plain)))
+      carried (odd-is k (λ even. omega (arith, next, even-number m plain))) (omega (arith, is, reach-more false m, ap (reach false) next, ap readSize plain)))
       ∙ sym (laid-in k p m j h)))
     where
       even-number : (m : ℕ) → parity false m ≡ false → m % 2 ≡ 0

@@ -18,7 +18,7 @@ use Rattle.whole.specs.Admissions.{ds2Admission, typeIn}
 use Rattle.packets.specs.Packet.{readSize, from}
 use Rattle.packets.specs.Walk.{Walk, steps, byteOf, countAt, reach, parity}
 use Rattle.packets.proofs.Packets.{count-whole}
-use Rattle.packets.proofs.Walk.{steps-place, steps-swap, steps-carry}
+use Rattle.packets.proofs.Walk.{reach-more, steps-place, steps-swap, steps-carry}
 use Rattle.packets.proofs.Longer.{Agree, same-packet}
 use Rattle.sp.specs.Runs.{runBegin}
 use Rattle.sp.specs.ReadLists.{ds2Run, ds2Runs}
@@ -31,7 +31,7 @@ use Rattle.laying.proofs.Files.{file-long, head-at, type-at, type-all, announce
 use Rattle.laying.proofs.Admitted.{recordingOf, Header, laid-taken}
 use Rattle.writing.specs.Laying.{carriedOn, laidRead, laidAt, spLaid}
 use Rattle.writing.proofs.Inverse.{gives-back}
-use Rattle.writing.proofs.Laying.{even-is, reach-next, laid-in, read-is, carried-is}
+use Rattle.writing.proofs.Laying.{even-is, laid-in, read-is, carried-is}
 
 -- a walk from place 0, unswapped, over a stream that begins with the packets laid
 module _ (n : ℕ) (p : ℕ → ℕ → ℕ) (s : ℕ → ℕ) (w : Walk) (place : w .place ≡ 0) (swap : w .swap ≡ false)
@@ -51,7 +51,7 @@ module _ (n : ℕ) (p : ℕ → ℕ → ℕ) (s : ℕ → ℕ) (w : Walk) (place
       let there : w .place + reach (w .swap) j + 40 ≡ reach false j + 40 = rw (place, swap) (omega arith) in
       steps-carry s w j (ap (λ (x : Bool). parity x (suc j)) swap ∙ swapped)
       ∙ ap s there
-      ∙ is (reach false j + 40) (omega (arith, reach-next j))
+      ∙ is (reach false j + 40) (omega (arith, reach-more false j))
       ∙ laid-in n p j 40 (omega (arith, ap readSize (even-is j even)))
       ∙ carried-is n p j (omega arith) even
       ∙ ap (λ (m : ℕ). p m 1) (add-one j))
@@ -65,12 +65,12 @@ module _ (n : ℕ) (p : ℕ → ℕ → ℕ) (s : ℕ → ℕ) (w : Walk) (place
       ∙ gives-back (parity false k) (steps s w k .carry) (carriedOn n p k) (p k) i l (zeros k h) (carry-at k h))
     where
       agree : (k : ℕ) → k < n → Agree (from s (reach false k)) (laidRead n p k) (readSize (parity false k))
-      agree k h j m = is (reach false k + j) (omega (arith, reach-next k)) ∙ laid-in n p k j m
+      agree k h j m = is (reach false k + j) (omega (arith, reach-more false k)) ∙ laid-in n p k j m
 
   pub count-back : (k long : ℕ) → k < n → reach false n ≤ long → countAt long (steps s w k) ≡ readSize (parity false k)
   count-back k long h enough =
       count-whole long (steps s w k .swap) (steps s w k .place)
-      (omega (arith, place-at k, ap readSize (swap-at k), reach-next k))
+      (omega (arith, place-at k, ap readSize (swap-at k), reach-more false k))
       ∙ ap readSize (swap-at k)
 
 -- the file of n packets, with a header that a caller supplies

@@ -11,12 +11,12 @@ use Rattle.writing.specs.Reads.{swappedRead}
 use Rattle.writing.specs.Laying.{partLaid, spLaid, byteIn}
 
 -- v has the packet's 42 bytes from place 1 on
-pub record Shifted (x : ℕ → ℕ) (v : List ℕ) : Type 0 where
+pub record OneOn (x : ℕ → ℕ) (v : List ℕ) : Type 0 where
   pub long : length v ≡ 52
   pub at : (i : ℕ) → i < 42 → getD v (1 + i) 0 ≡ x i
 
 -- r begins with the packet's swapped read
-pub record Unswapped (x : ℕ → ℕ) (r : List ℕ) : Type 0 where
+pub record SwappedRead (x : ℕ → ℕ) (r : List ℕ) : Type 0 where
   pub long : length r ≡ 48
   pub read : (j : ℕ) → j < 40 → getD r j 0 ≡ swappedRead x j
 

@@ -14,7 +14,7 @@ ghost use Rattle.packets.specs.Walk.{reach};
 ghost use Rattle.laying.specs.Inner.{countAt, Holds};
 ghost use Rattle.writing.specs.Laying.{spLaid, manyIn, byteIn};
 ghost use Rattle.writing.specs.Outcome.{soundIn, Writes};
-ghost use Rattle.writing.specs.Inner.{Shifted, Unswapped, PutsPacket, Ready};
+ghost use Rattle.writing.specs.Inner.{OneOn, SwappedRead, PutsPacket, Ready};
 
 // The most packets: their file has exactly as many bytes as the limit.
 const MOST: usize = 6_470_444;
@@ -49,9 +49,9 @@ fn blocks_for(many: usize) -> usize
 }
 
 // The packet at this place of the list, one place on, so that a blend of two shifts gives its read: 52 places, since the blend looks 4 on.
-fn shifted(packets: &[u8], from: usize) -> [u8; 52]
+fn one_on(packets: &[u8], from: usize) -> [u8; 52]
     requires { ⌜ from + 42 ≤ length (now packets) ⌝ }
-    ensures { λ r. ⌜ Shifted (λ i. getD (now (packets .entry)) (from + i) 0) r ⌝ }
+    ensures { λ r. ⌜ OneOn (λ i. getD (now (packets .entry)) (from + i) 0) r ⌝ }
 {
     let mut packet = [0u8; 52];
     let mut k = 0;
@@ -63,11 +63,11 @@ fn shifted(packets: &[u8], from: usize) -> [u8; 52]
 }
 
 // The read that gives the packet at this place of the list where it is swapped, and eight idle places.
-fn unswapped(packets: &[u8], from: usize) -> [u8; 48]
+fn swapped_read(packets: &[u8], from: usize) -> [u8; 48]
     requires { ⌜ from + 42 ≤ length (now packets) ⌝ }
-    ensures { λ r. ⌜ Unswapped (λ i. getD (now (packets .entry)) (from + i) 0) r ⌝ }
+    ensures { λ r. ⌜ SwappedRead (λ i. getD (now (packets .entry)) (from + i) 0) r ⌝ }
 {
-    let packet = shifted(packets, from);
+    let packet = one_on(packets, from);
     packets::blend(packet)
 }
 
@@ -81,12 +81,13 @@ pub fn put_packet(out: &mut [u8], number: usize, packets: &[u8], from: usize)
 {
     let place = packets::reach(false, number);
     if number % 2 == 0 {
+        // its own bytes with 0 at byte 40, as nothing follows yet; an array, since the list might overlap the output for all a compiler knows
         let read = packets::packet_bytes(packets, from, false, 0);
         laying::put(out, StreamPlace(place), &read, 0, PACKET);
         laying::count(out, StreamPlace(place), false);
         return;
     }
-    let read = unswapped(packets, from);
+    let read = swapped_read(packets, from);
     laying::put(out, StreamPlace(place - 2), packets, from + 1, 1);
     laying::put(out, StreamPlace(place), &read, 0, 40);
     laying::count(out, StreamPlace(place), true);

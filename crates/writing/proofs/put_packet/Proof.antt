@@ -41,8 +41,8 @@ returns c =
     puts-even _ _ _ _ _ _ _ (r .reach .ensures) (b .before .if1 .taken) (plain-gathered _ _ (b .packet-bytes .ensures)) (s .put .ensures)
     (n .count .ensures)
 
-unswapped-requires : tie.Need-unswapped-requires
-unswapped-requires c κs = search needs
+swapped-read-requires : tie.Need-swapped-read-requires
+swapped-read-requires c κs = search needs
 
 sub-t8 : tie.Need-sub-t8
 sub-t8 c = search needs
@@ -79,7 +79,7 @@ returns-2 c =
     let a = r .before .before .before .args in
     let next : a .from + 1 + 0 ≡ a .from + 1 = omega arith in
     puts-odd _ _ _ _ _ _ _ _ _ (r .reach .ensures) (u .before .if1 .left) (ap (λ (j : ℕ). getD (now (a .packets)) j 0) next)
-    (swapped-gathered _ _ (u .unswapped .ensures)) (one .put2 .ensures) (s .put3 .ensures) (n .count2 .ensures)
+    (swapped-gathered _ _ (u .swapped-read .ensures)) (one .put2 .ensures) (s .put3 .ensures) (n .count2 .ensures)
 
 pub put-packet-spec : {M : Type 1} → statement M
 put-packet-spec =
@@ -92,7 +92,7 @@ put-packet-spec =
     count-requires
     same-length
     returns
-    unswapped-requires
+    swapped-read-requires
     sub-t8
     add-put
     put-requires-2

@@ -1,4 +1,4 @@
--- `writing::shifted` meets its contract: the bytes so far stand one place on.
+-- `writing::one_on` meets its contract: the bytes so far stand one place on.
 -- Assumes nothing.
 use Prim.Native.Nat.{_+_, _-_, _≤_}
 use mathlib.Core.Path.{_≡_, refl, _∙_}
@@ -6,8 +6,8 @@ use lib.ListN.{length, getD}
 use Rattle.tables.specs.Lent.{Leaves}
 use Rattle.tables.proofs.Lent.{leaves-none, leaves-more, leaves-to}
 use borrow.Author.Needs.{needs}
-use Rattle.writing.proofs.shifted.Statement.{statement}
-use Rattle.writing.proofs.shifted.Tie as tie
+use Rattle.writing.proofs.one_on.Statement.{statement}
+use Rattle.writing.proofs.one_on.Tie as tie
 
 abbrev Inv-loop : tie.InvT-loop
 Inv-loop packets from packet₀ k₀ packet k = (k ≤ 42) × ((length packet₀ ≡ 52) × Leaves packet₀ 1 k (λ i. getD packets (from + i) 0) packet)
@@ -48,8 +48,8 @@ returns c =
     let w = leaves-to e (l .inv .1 .1) in
     record { long = w .long ∙ l .inv .1 .0; at = w .new }
 
-pub shifted-spec : {M : Type 1} → statement M
-shifted-spec =
+pub one-on-spec : {M : Type 1} → statement M
+one-on-spec =
     tie.close
     (tie.spec
     Inv-loop
