@@ -24,7 +24,7 @@ module _ (header : List ℕ) (l : Laid) where
   unfolding fileByte
   front-is x h = simp (lt-ltb x 1536 h)
 
-  block-is : (b i : ℕ) → i < 512 → fileByte header l (blockAt 1536 b + i) ≡ blockByte l b i
+  pub block-is : (b i : ℕ) → i < 512 → fileByte header l (blockAt 1536 b + i) ≡ blockByte l b i
   unfolding fileByte
   block-is b i h =
       let block : (blockAt 1536 b + i - 1536) / 512 ≡ b = omega arith in

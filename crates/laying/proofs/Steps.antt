@@ -16,10 +16,10 @@ use Rattle.tables.proofs.Lent.{leaves-none, leaves-more, leaves-first, leaves-j
 use Rattle.tables.proofs.Counting.{none-such}
 use Rattle.tables.proofs.Cases.{by-order, by-equal}
 use Rattle.blocks.specs.Places.{fileOf, blockAt}
-use Rattle.laying.specs.Laid.{Laid, blocksFor, sizeFor, blockOf, countIn, firstIn, flagByte, placeByte, headByte, fileByte}
-use Rattle.laying.specs.Inner.{silentByte, begunByte, Puts, headAt, countAt, counted, Counts, Holds, streaming, oneMore}
+use Rattle.laying.specs.Laid.{Laid, blocksFor, sizeFor, blockOf, countIn, firstIn, flagByte, placeByte, headByte, blockByte, fileByte}
+use Rattle.laying.specs.Inner.{noFrames, Puts, headAt, countAt, counted, Counts, Holds, streaming, oneMore}
 use Rattle.laying.proofs.Frames.{first-more, Apart, ascends, first-splits, begins-in}
-use Rattle.laying.proofs.Files.{front-is, head-is, body-is}
+use Rattle.laying.proofs.Files.{front-is, block-is, head-is, body-is}
 
 -- a place of the file lies in the header, in a block's header or in a payload
 by-part : {X : Type 0} (x : ℕ) → (x < 1536 → X) → ((b i : ℕ) → i < 6 → x ≡ blockAt 1536 b + i → X) → ((q : ℕ) → x ≡ fileOf 1536 q → X) → X
@@ -73,16 +73,17 @@ put-beside put b i h = put .kept (blockAt 1536 b + i) (λ j l same. omega arith)
 
 -- four stores over zeros make a silent block
 pub silent-stores : (d e : List ℕ) (at kind : ℕ) → at + 512 ≤ length d → Leaves d at 512 (λ k. 0) e
-    → Leaves d at 512 (silentByte kind) (set (set (set (set e at 0x0F) (at + 3) 0xFF) (at + 4) kind) (at + 5) 0xFF)
+    → Leaves d at 512 (blockByte (noFrames kind) 0) (set (set (set (set e at 0x0F) (at + 3) 0xFF) (at + 4) kind) (at + 5) 0xFF)
+unfolding blockByte headByte countIn howMany
 silent-stores d e at kind room zeros =
     let front : at + 0 ≡ at = omega arith in
-    leaves-as (silentByte kind) is
+    leaves-as (blockByte (noFrames kind) 0) is
     (leaves-again 5 0xFF (omega arith) room
     (leaves-again 4 kind (omega arith) room
     (leaves-again 3 0xFF (omega arith) room
     (subst (λ (j : ℕ). Leaves d at 512 (λ k. cond (eqb k 0) 0x0F 0) (set e j 0x0F)) front (leaves-again 0 0x0F (omega arith) room zeros)))))
   where
-    is : (k : ℕ) → k < 512 → cond (eqb k 5) 0xFF (cond (eqb k 4) kind (cond (eqb k 3) 0xFF (cond (eqb k 0) 0x0F 0))) ≡ silentByte kind k
+    is : (k : ℕ) → k < 512 → cond (eqb k 5) 0xFF (cond (eqb k 4) kind (cond (eqb k 3) 0xFF (cond (eqb k 0) 0x0F 0))) ≡ blockByte (noFrames kind) 0 k
     is k h =
         by-order k 6
         (λ head.
@@ -104,26 +105,30 @@ silent-stores d e at kind room zeros =
 
 -- one silent block more; and the header before them
 abbrev pub silentAt : ℕ → ℕ → ℕ
-silentAt kind i = silentByte kind (i % 512)
+silentAt kind i = blockByte (noFrames kind) 0 (i % 512)
 
 pub silent-more : (d e e′ : List ℕ) (kind b to : ℕ) → to ≡ 1536 + 512 * b → Leaves d 1536 (512 * b) (silentAt kind) e
-    → Leaves e to 512 (silentByte kind) e′ → Leaves d 1536 (512 * (b + 1)) (silentAt kind) e′
+    → Leaves e to 512 (blockByte (noFrames kind) 0) e′ → Leaves d 1536 (512 * (b + 1)) (silentAt kind) e′
 silent-more d e e′ kind b to is so-far next =
     leaves-to (omega arith)
-    (leaves-join d 1536 (512 * b) 512 (silentAt kind) (silentByte kind) e e′ so-far
-    (subst (λ (j : ℕ). Leaves e j 512 (silentByte kind) e′) is next)
-    (λ k h. let byte : k ≡ (512 * b + k) % 512 = omega arith in ap (silentByte kind) byte))
+    (leaves-join d 1536 (512 * b) 512 (silentAt kind) (blockByte (noFrames kind) 0) e e′ so-far
+    (subst (λ (j : ℕ). Leaves e j 512 (blockByte (noFrames kind) 0) e′) is next)
+    (λ k h. let byte : k ≡ (512 * b + k) % 512 = omega arith in ap (blockByte (noFrames kind) 0) byte))
 
 pub silent-all : (header d e e′ : List ℕ) (kind b : ℕ) → Leaves d 0 1536 (λ i. getD header (0 + i) 0) e
-    → Leaves e 1536 (512 * b) (silentAt kind) e′ → Leaves d 0 (1536 + 512 * b) (begunByte header kind) e′
+    → Leaves e 1536 (512 * b) (silentAt kind) e′ → Leaves d 0 (1536 + 512 * b) (fileByte header (noFrames kind)) e′
+unfolding blockByte headByte countIn firstIn howMany
 silent-all header d e e′ kind b front rest =
-    leaves-join d 0 1536 (512 * b) (begunByte header kind) (silentAt kind) e e′
-    (leaves-as (begunByte header kind)
-    (λ k h. let there : 0 + k ≡ k = omega arith in ap (λ (j : ℕ). getD header j 0) there ∙ simp (lt-ltb k 1536 h)) front)
+    leaves-join d 0 1536 (512 * b) (fileByte header (noFrames kind)) (silentAt kind) e e′
+    (leaves-as (fileByte header (noFrames kind))
+    (λ k h. let there : 0 + k ≡ k = omega arith in ap (λ (j : ℕ). getD header j 0) there ∙ sym (front-is header (noFrames kind) k h)) front)
     rest
     (λ k h.
-    let back : 1536 + k - 1536 ≡ k = omega arith in
-    simp (le-ltb (1536 + k) 1536 (omega arith)) (ap (silentAt kind) (sym back)))
+    let there : 1536 + k ≡ blockAt 1536 (k / 512) + k % 512 = omega arith in
+    any-block kind (k / 512) (k % 512) ∙ sym (ap (fileByte header (noFrames kind)) there ∙ block-is header (noFrames kind) (k / 512) (k % 512) (omega arith)))
+  where
+    any-block : (kind b i : ℕ) → blockByte (noFrames kind) 0 i ≡ blockByte (noFrames kind) b i
+    any-block kind b i = refl
 
 -- a store counts one more frame
 pub counts-later : (d : List ℕ) (q head c : ℕ) (swap : Bool) → head ≡ headAt q → head + 3 ≤ length d → c ≡ getD d (head + 2) 0 → 0 < c
@@ -156,25 +161,17 @@ counts-first d q head flag place swap is room none f p =
     (leaves-first d head _ flag (omega arith) (simp (eq-eqb (getD d (countAt q) 0) 0 stood) f))))
 
 module _ (header : List ℕ) (l : Laid) where
-  -- the file of no frame over a stream of zeros
-  pub begun-is : l .many ≡ 0 → ((q : ℕ) → l .stream q ≡ 0) → (x : ℕ) → begunByte header (l .kind) x ≡ fileByte header l x
-  unfolding countIn headByte
+  -- the file of no frame yet, in whatever blocks
+  pub begun-is : l .many ≡ 0 → ((q : ℕ) → l .stream q ≡ 0) → (x : ℕ) → fileByte header (noFrames (l .kind)) x ≡ fileByte header l x
+  unfolding countIn headByte howMany
   begun-is none zeros x =
-      by-part x (λ front. simp (lt-ltb x 1536 front) (sym (front-is header l x front))) head
-      (λ q is.
-      let byte : (fileOf 1536 q - 1536) % 512 ≡ 6 + q % 506 = omega arith in
-      rw is
-      (simp (le-ltb (fileOf 1536 q) 1536 (omega arith), byte, le-ltb (6 + q % 506) 6 (omega arith)) (sym (body-is header l q ∙ zeros q))))
+      by-part x (λ front. front-is header (noFrames (l .kind)) x front ∙ sym (front-is header l x front))
+      (λ b i small is.
+      rw is (head-is header (noFrames (l .kind)) b i small ∙ sym (head-is header l b i small ∙ simp (silent b))))
+      (λ q is. rw is (body-is header (noFrames (l .kind)) q ∙ sym (body-is header l q ∙ zeros q)))
     where
       silent : (b : ℕ) → countIn l b ≡ 0
       silent b = none-such (l .many) (λ k. eqb (blockOf l k) b) (λ k h. absurd (not-suc-le-zero (let less : k < 0 = omega arith in less)))
-
-      head : (b i : ℕ) → i < 6 → x ≡ blockAt 1536 b + i → begunByte header (l .kind) x ≡ fileByte header l x
-      head b i small is =
-          let byte : (blockAt 1536 b + i - 1536) % 512 ≡ i = omega arith in
-          rw is
-          (simp (le-ltb (blockAt 1536 b + i) 1536 (omega arith), byte, lt-ltb i 6 small)
-          (sym (head-is header l b i small ∙ simp (silent b))))
 
   module _ (d e e′ : List ℕ) (held : Holds d header l e) where
     -- bytes put into the stream

@@ -1,22 +1,19 @@
 -- What only contracts of inner functions speak of: what a writer's steps do to the lent output, which are silent blocks laid, bytes put at a
 -- place of the payload stream, over a block's end where need be, and a frame counted in the header of the block that it begins in; and what
 -- the output holds between them. Assumes nothing.
-use Prim.Native.Nat.{ℕ, suc, _+_, _-_, _/_, _%_, _<_}
+use Prim.Native.Nat.{ℕ, suc, _+_, _/_, _<_}
 use mathlib.Core.Path.{_≡_}
 use mathlib.Core.List.{List}
-use mathlib.Core.Bool.{Bool, cond}
+use mathlib.Core.Bool.{Bool, false, cond}
 use lib.ListN.{length, getD}
-use lib.Dec.{ltb, eqb}
+use lib.Dec.{eqb}
 use Rattle.tables.specs.Lent.{Leaves}
 use Rattle.blocks.specs.Places.{fileOf, blockAt}
 use Rattle.laying.specs.Laid.{Laid, sizeFor, fileByte, flagByte, placeByte}
 
--- byte i of a silent block that holds zeros; and byte i of a file of such blocks
-abbrev pub silentByte : ℕ → ℕ → ℕ
-silentByte kind i = cond (ltb i 6) (cond (eqb i 0) 0x0F (cond (eqb i 1) 0 (cond (eqb i 2) 0 (cond (eqb i 4) kind 0xFF)))) 0
-
-abbrev pub begunByte : List ℕ → ℕ → ℕ → ℕ
-begunByte header kind i = cond (ltb i 1536) (getD header i 0) (silentByte kind ((i - 1536) % 512))
+-- no frame, over a stream of zeros
+abbrev pub noFrames : ℕ → Laid
+noFrames kind = record { kind = kind; many = 0; at = λ k. 0; swap = λ k. false; stream = λ q. 0; end = 0 }
 
 -- e is d but for n bytes of f, put at place q of the payload stream
 pub record Puts (d : List ℕ) (q n : ℕ) (f : ℕ → ℕ) (e : List ℕ) : Type 0 where

@@ -12,8 +12,8 @@ ghost use lib.ListN.{length, getD};
 ghost use lib.Dec.{eqb};
 ghost use Rattle.tables.specs.Lent.{Leaves};
 ghost use Rattle.laying.specs.Header.{isHeader};
-ghost use Rattle.laying.specs.Laid.{flagByte, placeByte};
-ghost use Rattle.laying.specs.Inner.{silentByte, begunByte, Puts, headAt, countAt, Counts};
+ghost use Rattle.laying.specs.Laid.{flagByte, placeByte, blockByte, fileByte};
+ghost use Rattle.laying.specs.Inner.{noFrames, Puts, headAt, countAt, Counts};
 
 // The size of the header that a caller supplies, and so where the audio starts.
 pub const HEADER: usize = 1536;
@@ -44,7 +44,7 @@ pub fn is_header(header: &[u8]) -> bool
 // Lays a block of this type, with no frame in it, at a place of the file.
 fn lay_silent(out: &mut [u8], at: usize, kind: u8)
     requires { ⌜ at + 512 ≤ length (now out) ⌝ }
-    ensures { λ _. ⌜ Leaves (now (out .entry)) at 512 (silentByte kind) (now (out .exit)) ⌝ }
+    ensures { λ _. ⌜ Leaves (now (out .entry)) at 512 (blockByte (noFrames kind) 0) (now (out .exit)) ⌝ }
 {
     let mut k = 0;
     while k < BLOCK {
@@ -60,7 +60,7 @@ fn lay_silent(out: &mut [u8], at: usize, kind: u8)
 // Lays the header, and after it so many blocks of this type with no frame in them.
 pub fn begin(header: &[u8], kind: u8, blocks: usize, out: &mut [u8])
     requires { ⌜ (length (now header) ≡ 1536) × (1536 + 512 * blocks ≤ length (now out)) ⌝ }
-    ensures { λ _. ⌜ Leaves (now (out .entry)) 0 (1536 + 512 * blocks) (begunByte (now (header .entry)) kind) (now (out .exit)) ⌝ }
+    ensures { λ _. ⌜ Leaves (now (out .entry)) 0 (1536 + 512 * blocks) (fileByte (now (header .entry)) (noFrames kind)) (now (out .exit)) ⌝ }
 {
     tables::copy(out, 0, header, 0, HEADER);
     let mut block = 0;

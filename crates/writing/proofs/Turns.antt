@@ -14,8 +14,8 @@ use Rattle.tables.proofs.Lent.{leaves-to, leaves-at, leaves-twice}
 use Rattle.tables.proofs.Cases.{by-equal, never}
 use Rattle.packets.specs.Packet.{readSize}
 use Rattle.packets.specs.Walk.{reach, parity}
-use Rattle.laying.specs.Laid.{countIn, headByte}
-use Rattle.laying.specs.Inner.{begunByte, Puts, Counts, countAt, Holds, streaming}
+use Rattle.laying.specs.Laid.{countIn, headByte, fileByte}
+use Rattle.laying.specs.Inner.{noFrames, Puts, Counts, countAt, Holds, streaming}
 use Rattle.laying.proofs.Frames.{few-in}
 use Rattle.laying.proofs.Files.{head-is}
 use Rattle.laying.proofs.Steps.{put-beside, begun-is, put-holds, count-holds}
@@ -94,7 +94,7 @@ module _ (k : ℕ) (x : ℕ → ℕ) where
 
 -- the file of no packet yet
 pub none-yet : (header d e : List ℕ) (n : ℕ) (p : ℕ → ℕ → ℕ) (blocks : ℕ) → blocks ≡ (reach false n + 505) / 506
-    → Leaves d 0 (1536 + 512 * blocks) (begunByte header 0) e → Holds e header (partLaid n p 0) e
+    → Leaves d 0 (1536 + 512 * blocks) (fileByte header (noFrames 0)) e → Holds e header (partLaid n p 0) e
 unfolding laidRead
 none-yet header d e n p blocks is begun =
     record {
@@ -126,7 +126,7 @@ still-few {d} {e} at there is put few =
 
 -- the file of all of them
 pub laid-all : (header d e e′ : List ℕ) (n k blocks : ℕ) (p : ℕ → ℕ → ℕ) → blocks ≡ (reach false n + 505) / 506 → k ≡ n
-    → Leaves d 0 (1536 + 512 * blocks) (begunByte header 0) e → Holds e header (partLaid n p k) e′ → Holds d header (spLaid n p) e′
+    → Leaves d 0 (1536 + 512 * blocks) (fileByte header (noFrames 0)) e → Holds e header (partLaid n p k) e′ → Holds d header (spLaid n p) e′
 laid-all header d e e′ n k blocks p is all begun held =
     leaves-twice
     (leaves-to (ap (λ (b : ℕ). 1536 + 512 * b) is) begun)
