@@ -7,13 +7,14 @@ Refusal 17 is not tried: its packets, over 271 million bytes, are more memory th
 
 The list is text: a number is a run of digits, and every other byte stands between numbers. A case has a title without digits, and two lines:
 
-- Its number, from 1 on; the header's first four bytes and its length; a seed; how many packets are whole, and how many bytes there are of
-  one more; what is put at byte 40 of two packets (0: neither), and which they are; how many bytes are lent for the file.
-- The answers: the refusal and the number beside it (0 and 0 for none), the file's length (0 if refused), and a digest of all that was lent.
+- Its number, from 1 on; the header's first four bytes and its length; how many bytes of packets there are; what is put at byte 40 of two
+  packets (0: neither), and which they are; how many bytes are lent for the file.
+- The answers: the refusal and the number beside it (0 and 0 for none), the file's length (0 if refused), and a digest of all that was lent;
+  and of the file's whole reading a digest of the counts, 42 and 40 in turn (0 if refused). Its packets are those that were written.
 
-The header's bytes from 4 on are noise of the seed, and the packets noise of the next: the state, which is the seed at first, goes to
-state * 1103515245 + 12345 modulo 2^31 before each byte, and the byte is state / 65536 modulo 256. Byte 40 of a whole packet is 0 but where it
-is put. Lent bytes are 165 before the call. A digest begins with 0, and takes a number v more by (digest * 1000003 + v + 1) modulo 2^43.
+The header's bytes from 4 on are noise of the case's number, and the packets noise of the next: the state, which is that number at first,
+goes to state * 1103515245 + 12345 modulo 2^31 before each byte, and the byte is state / 65536 modulo 256. Byte 40 of a packet is 0 but where
+it is put. Lent bytes are 165 before the call. A digest begins with 0, and takes a number v more by (digest * 1000003 + v + 1) modulo 2^43.
 """
 import collections
 import random
@@ -95,11 +96,8 @@ def header_of(case, seed):
 
 def packets_of(case, seed):
     joined = noise(seed + 1, PACKET * case.whole + case.more)
-    for number in range(case.whole):
-        joined[PACKET * number + 40] = 0
-    for number in (case.one, case.other):
-        if PACKET * number + 40 < len(joined):
-            joined[PACKET * number + 40] = case.value
+    for place in range(40, len(joined), PACKET):
+        joined[place] = case.value if place // PACKET in (case.one, case.other) else 0
     return bytes(joined)
 
 def answers(case, seed):
@@ -108,7 +106,8 @@ def answers(case, seed):
         file = write(header_of(case, seed), packets_of(case, seed), case.room)
     except Refused as refused:
         refusal = refused.args
-    return [*refusal, len(file), digest(file.ljust(case.room, b"\xA5"))]
+    counts = [40 if number % 2 else 42 for number in range(case.whole)] if file else []
+    return [*refusal, len(file), digest(file.ljust(case.room, b"\xA5")), digest(counts)]
 
 # ---- The cases
 
@@ -166,7 +165,7 @@ def order():
 GROUPS = sizes, chance, headers, cut_packets, marked_packets, rooms, order
 
 def entry(number, case, found):
-    lent = [number, *case.magic, case.long, number, case.whole, case.more, case.value, case.one, case.other, case.room]
+    lent = [number, *case.magic, case.long, PACKET * case.whole + case.more, case.value, case.one, case.other, case.room]
     lines = [case.title], lent, found, []
     return "".join(" ".join(map(str, line)) + "\n" for line in lines)
 

@@ -3,6 +3,8 @@
 // list, and says what it holds and why refusal 17 is not in it. Rests on writing and sp, on test_expected and test_sums and what these share.
 use libc::STDIN_FILENO;
 use libc::STDOUT_FILENO;
+use test_tools::say;
+use test_tools::sum;
 
 // One case.
 mod calls;
@@ -10,15 +12,39 @@ mod calls;
 // What is lent for it.
 mod making;
 
+// Whether there is a case more.
+fn goes_on(list: &[u8], at: usize) -> bool {
+    let seen = test_expected::begin();
+    test_expected::goes_on(list, test_expected::read_to(seen, at))
+}
+
 // Runs through the list. A case has some numbers, so there are no more cases than bytes.
 fn run(list: &[u8]) {
-    let mut told = calls::begin();
-    let mut turns: usize = 0;
-    while turns < list.len() && calls::goes_on(list, told) {
-        told = calls::one_case(list, told);
-        turns += 1;
+    let mut at: usize = 0;
+    let mut answered: usize = 0;
+    let mut back: usize = 0;
+    let mut wrong: usize = 0;
+    let mut cases: usize = 0;
+    while cases < list.len() && goes_on(list, at) {
+        let case = test_expected::read(list, at, making::NUMBERS);
+        let numbers = case.values;
+        let came = calls::one_case(numbers);
+        at = case.at;
+        answered = sum(answered, came.answered);
+        back = sum(back, came.back);
+        wrong = sum(wrong, came.wrong);
+        cases += 1;
     }
-    calls::conclude(told, turns);
+    conclude(cases, answered, back, wrong);
+}
+
+// The line at the end.
+fn conclude(cases: usize, answered: usize, back: usize, wrong: usize) {
+    say(b"cases ", cases as u64);
+    say(b", answered ", answered as u64);
+    say(b", read back ", back as u64);
+    say(b", wrong ", wrong as u64);
+    io::write_all(STDOUT_FILENO, b"\n");
 }
 
 fn main() {

@@ -1,4 +1,4 @@
--- `test_written::run` meets its contract: there are no more turns than bytes.
+-- `test_written::run` meets its contract: there are no more cases than bytes.
 -- Assumes nothing.
 use Prim.Native.Nat.{_-_, _≤_}
 use lib.ListN.{length}
@@ -7,13 +7,10 @@ use Rattle.test_written.proofs.run.Statement.{statement}
 use Rattle.test_written.proofs.run.Tie as tie
 
 abbrev Inv-loop : tie.InvT-loop
-Inv-loop list told₀ turns₀ told turns = turns ≤ length list
+Inv-loop list at₀ answered₀ back₀ wrong₀ cases₀ at answered back wrong cases = cases ≤ length list
 
 abbrev μ-loop : tie.MeasureT-loop
-μ-loop list told₀ turns₀ told turns = length list - turns
-
-begin-requires : tie.Need-begin-requires Inv-loop μ-loop
-begin-requires c κs = search needs
+μ-loop list at₀ answered₀ back₀ wrong₀ cases₀ at answered back wrong cases = length list - cases
 
 loop-holds : tie.Need-loop-holds Inv-loop μ-loop
 loop-holds c = search needs
@@ -21,11 +18,23 @@ loop-holds c = search needs
 goes-on-requires : tie.Need-goes-on-requires Inv-loop μ-loop
 goes-on-requires c κs = search needs
 
+read-requires : tie.Need-read-requires Inv-loop μ-loop
+read-requires c κs = search needs
+
 one-case-requires : tie.Need-one-case-requires Inv-loop μ-loop
 one-case-requires c κs = search needs
 
-add-turns : tie.Need-add-turns Inv-loop μ-loop
-add-turns c = search needs
+sum-requires : tie.Need-sum-requires Inv-loop μ-loop
+sum-requires c κs = search needs
+
+sum-requires-2 : tie.Need-sum-requires-2 Inv-loop μ-loop
+sum-requires-2 c κs = search needs
+
+sum-requires-3 : tie.Need-sum-requires-3 Inv-loop μ-loop
+sum-requires-3 c κs = search needs
+
+add-cases : tie.Need-add-cases Inv-loop μ-loop
+add-cases c = search needs
 
 loop-less : tie.Need-loop-less Inv-loop μ-loop
 loop-less c = search needs
@@ -45,11 +54,14 @@ run-spec =
     (tie.spec
     Inv-loop
     μ-loop
-    begin-requires
     loop-holds
     goes-on-requires
+    read-requires
     one-case-requires
-    add-turns
+    sum-requires
+    sum-requires-2
+    sum-requires-3
+    add-cases
     loop-less
     loop-again
     conclude-requires
