@@ -1,9 +1,9 @@
-// DS2 SP files that are written. The original writes none: a file is held to a model of it, and then read by the original and by ours, whole and
+// DS2 SP files that are written. The original writes none: a file is held to the model's, and then read by the original and by ours, whole and
 // in pieces, and both give back the packets that it was written from, each with its full count. The other way round, the packets that the
-// original reads of a recording are written, and read by it again. It rests on docs/FORMAT.md, and on what the original makes of the files.
+// original reads of a recording are written, and read by it again. It rests on the model, and on what the original makes of the files.
 use crate::both::Both;
 use crate::common::files::{self, Dice};
-use crate::common::model::{Answer, Kind, LIMIT};
+use crate::common::model::{self, Answer, Kind, LIMIT};
 use crate::differences::Name;
 use crate::lent::Lent;
 use crate::ours::{self, Reader};
@@ -16,61 +16,16 @@ const HEADER: usize = 1536;
 /// The longest list whose file is not over the limit: it has exactly as many bytes.
 const MOST: usize = 6_470_444;
 
-/// The payload stream of these packets, and where in it each one's read begins.
-fn stream(packets: &[u8]) -> (Vec<u8>, Vec<usize>) {
-    let (mut stream, mut places) = (Vec::with_capacity(packets.len()), Vec::with_capacity(packets.len() / 42));
-    let mut rest = packets.chunks_exact(42).peekable();
-    while let Some(packet) = rest.next() {
-        places.push(stream.len());
-        let mut read = [0; 42];
-        if places.len() % 2 == 1 {
-            read.copy_from_slice(packet);
-            read[40] = rest.peek().map_or(0, |next| next[1]);
-            stream.extend_from_slice(&read);
-        } else {
-            // Reading, backwards: of each pair the latter is the packet's byte here, and the former its byte three places on.
-            for at in (0..40).step_by(2) {
-                (read[at], read[at + 1]) = (packet[at + 3], packet[at]);
-            }
-            stream.extend_from_slice(&read[..40]);
-        }
-    }
-    (stream, places)
-}
-
-/// The file, block by block.
-fn model(header: &[u8], packets: &[u8]) -> Vec<u8> {
-    let (stream, places) = stream(packets);
-    let (mut file, mut before) = (header.to_vec(), 0);
-    for (block, payload) in stream.chunks(506).enumerate() {
-        let count = places[before..].iter().take_while(|&&place| place < 506 * (block + 1)).count();
-        let flags = if count > 0 && before % 2 == 1 { 0x8F } else { 0x0F };
-        let first = if count > 0 { 3 + (places[before] - 506 * block) / 2 } else { 0 };
-        file.extend_from_slice(&files::header(flags, first as u8, count as u8, 0));
-        file.extend_from_slice(payload);
-        before += count;
-    }
-    file.resize((file.len() + 511) / 512 * 512, 0);
-    file
-}
-
 /// Bytes of the file.
 fn needed(packets: usize) -> usize {
     HEADER + 512 * ((41 * packets + packets % 2 + 505) / 506)
 }
 
+/// The model's answer in that room. No list that it is given is over the limit.
 fn expected(header: &[u8], packets: &[u8], room: usize) -> Answer<Vec<u8>> {
-    if header.len() != HEADER || !matches!(header[..4], [1 | 3, b'd', b's', b'2']) {
-        return Err((15, 0));
-    }
-    if let Some(wrong) = packets.chunks(42).position(|packet| packet.len() < 42 || packet[40] != 0) {
-        return Err((16, wrong as u64));
-    }
-    let file = model(header, packets);
-    match file.len() {
-        length if length > LIMIT => Err((17, LIMIT as u64)),
-        length if length > room => Err((8, length as u64)),
-        _ => Ok(file),
+    match model::written(header, packets)? {
+        file if file.len() > room => Err((8, file.len() as u64)),
+        file => Ok(file),
     }
 }
 
@@ -93,32 +48,18 @@ pub fn compare(score: &mut Score) {
         for (number, filling) in [None, Some(0), Some(0xFF)].into_iter().enumerate() {
             let first = [1, 3][(count + number) % 2];
             score.file(format_args!("{count} packets written, first byte {first}, filled with {filling:?}"));
-            let (header, packets) = (header(first, dice), packets(count, filling, dice));
+            let (header, mut packets) = (files::ds2_header(first, dice), files::packets(count, dice));
+            if let Some(byte) = filling {
+                for packet in packets.chunks_mut(42) {
+                    packet.fill(byte);
+                    packet[40] = 0;
+                }
+            }
             there_and_back(&header, &packets, dice, score);
         }
     }
     refused(dice, score);
     longest(dice, score);
-}
-
-fn noise(bytes: usize, dice: &mut Dice) -> Vec<u8> {
-    let mut noise: Vec<u8> = (0..bytes / 8 + 1).flat_map(|_| dice.roll().to_le_bytes()).collect();
-    noise.truncate(bytes);
-    noise
-}
-
-/// Of a header only its first four bytes are looked at.
-fn header(first: u8, dice: &mut Dice) -> Vec<u8> {
-    let mut header = noise(HEADER, dice);
-    header[..4].copy_from_slice(&[first, b'd', b's', b'2']);
-    header
-}
-
-/// All of one byte, or from the dice; byte 40 is 0 in either.
-fn packets(count: usize, filling: Option<u8>, dice: &mut Dice) -> Vec<u8> {
-    let mut packets = filling.map_or_else(|| noise(42 * count, dice), |byte| vec![byte; 42 * count]);
-    packets.chunks_mut(42).for_each(|packet| packet[40] = 0);
-    packets
 }
 
 /// Writes a list, and reads the file in every way.
@@ -183,8 +124,8 @@ fn in_pieces(file: &[u8], packets: &[u8], counts: &[u8], dice: &mut Dice, score:
 fn refused(dice: &mut Dice, score: &mut Score) {
     for number in 0..3000 {
         score.file(format_args!("a writing that may be refused, number {number}"));
-        let mut header = header(dice.pick(&[1, 3]), dice);
-        let mut packets = packets(dice.below(40), None, dice);
+        let mut header = files::ds2_header(dice.pick(&[1, 3]), dice);
+        let mut packets = files::packets(dice.below(40), dice);
         let needed = needed(packets.len() / 42);
         let room = if dice.percent(50) { needed } else { dice.pick(&[0, 1, HEADER - 1, needed - 1, needed - 512]) };
         match dice.below(12) {
@@ -200,7 +141,7 @@ fn refused(dice: &mut Dice, score: &mut Score) {
             }
         }
         if dice.percent(25) {
-            packets.extend(noise(1 + dice.below(41), dice));
+            packets.extend(&files::packets(1, dice)[..1 + dice.below(41)]);
         }
         ask(&header, &packets, room, score);
     }
@@ -209,7 +150,7 @@ fn refused(dice: &mut Dice, score: &mut Score) {
 /// The longest list, read back by ours, and one packet more. The original is not asked: its vectors would be large.
 fn longest(dice: &mut Dice, score: &mut Score) {
     score.file("the longest file that is written");
-    let (header, mut packets) = (header(3, dice), packets(997, None, dice).repeat(MOST / 997 + 1));
+    let (header, mut packets) = (files::ds2_header(3, dice), files::packets(997, dice).repeat(MOST / 997 + 1));
     packets.truncate(42 * (MOST + 1));
     let refused = |packets: &[u8], refusal, score: &mut Score| {
         let mut out = Lent::new(HEADER);
