@@ -364,16 +364,30 @@ static void start_anew(struct intake *it)
     it->shorts.len = 0;
 }
 
-static void rename_output(const struct intake *it)
+/* Removes the empty file that has taken the name of PACKETS, if it is still the one there and still empty. */
+static void give_up(const char *packets, const struct stat *taken)
 {
-    if (rename(temporary, it->packets) != 0)
+    struct stat there;
+    if (lstat(packets, &there) == 0 && there.st_dev == taken->st_dev && there.st_ino == taken->st_ino && there.st_size == 0)
+        unlink(packets);
+}
+
+/* `taken`: the empty file that has taken the name, NULL if none has. */
+static void rename_output(const struct intake *it, const struct stat *taken)
+{
+    if (rename(temporary, it->packets) != 0) {
+        int cause = errno;
+        if (taken != NULL)
+            give_up(it->packets, taken);
+        errno = cause;
         fail_at(it->packets);
+    }
     free(temporary);
     temporary = NULL;
 }
 
 /* A file that was made meanwhile is not overwritten: a link is refused then, as a renaming is not. Where the file system has no links the
- * name is taken first, by an empty file. */
+ * name is taken first, by an empty file, which is closed before the renaming: some file systems rename over no open one. */
 static void link_output(const struct intake *it)
 {
     if (link(temporary, it->packets) == 0) {
@@ -383,8 +397,10 @@ static void link_output(const struct intake *it)
     int taken = errno == EEXIST ? -1 : open(it->packets, O_WRONLY | O_CREAT | O_EXCL, 0666);
     if (taken < 0)
         fail_at(it->packets);
+    struct stat made;
+    bool known = fstat(taken, &made) == 0;
     close(taken);
-    rename_output(it);
+    rename_output(it, known ? &made : NULL);
 }
 
 /* Puts the file in place, and its name on the disk too: a folder that cannot be opened for that is left to the system. */
@@ -395,7 +411,7 @@ static void put_in_place(struct intake *it)
         fail_at(it->packets);
     look_at_output(it);
     if (it->force)
-        rename_output(it);
+        rename_output(it, NULL);
     else
         link_output(it);
     char *name = folder_of(it->packets, &len);

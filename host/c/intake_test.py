@@ -691,6 +691,26 @@ def made_meanwhile(trial):
         trial.hold("made meanwhile", "" if fine else f"got {program.returncode} {out!r} {errors!r}, temporary {names}")
 
 
+def lost_meanwhile(trial, names, given):
+    """A temporary file that is lost while the rest is read cannot be put in place, and what is there is as it was. As it cannot be linked
+    either, without --force the name is first taken by an empty file, which must not stay."""
+    for options, left in (([], None), (["--force"], None), (["--force"], LEFT)):
+        write(trial.packets, left)
+        with subprocess.Popen(trial.command + options + names, stdin=subprocess.PIPE, stdout=subprocess.PIPE,
+                              stderr=subprocess.PIPE) as program:
+            program.stdin.write(given[:50])
+            program.stdin.flush()
+            temporary = os.path.join(trial.folder, f".{trial.program}-{program.pid}")
+            while program.poll() is None and not os.path.exists(temporary):
+                time.sleep(0.01)
+            write(temporary, None)
+            out, errors = program.communicate(given[50:], timeout=300)
+        trial.runs += 1
+        fine = (out, contents(trial.packets), program.returncode) == (b"", left, FAILED) and b"No such file or directory" in errors
+        fine = fine and os.listdir(trial.folder) == ([] if left is None else [trial.output])
+        trial.hold("lost meanwhile", "" if fine else f"got {program.returncode} {out!r} {errors!r}, left {os.listdir(trial.folder)}")
+
+
 def taken_name(trial):
     """A file with the temporary file's name is left alone. The shell's process number becomes the program's."""
     write(trial.recording, EMPTY)
@@ -780,6 +800,7 @@ def main():
         links_replaced(trial, folder)
         failing_outputs(trial, folder)
         made_meanwhile(trial)
+        lost_meanwhile(trial, ["-", trial.packets], EMPTY)
         taken_name(trial)
         standard_input(trial)
         closed_streams(trial)

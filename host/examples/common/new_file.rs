@@ -59,6 +59,11 @@ fn is_recording(name: &Path) -> bool {
     read.is_ok() && !matches!(tally(&first), Err(Refusal { number: Refusal::MAGIC, .. }))
 }
 
+/// What tells one file from another.
+fn known(file: &Metadata) -> (u64, u64) {
+    (file.dev(), file.ino())
+}
+
 /// Fails if a file must not be written: asked before anything is read, and again before it is put in place.
 fn look_at(path: &Path, force: bool, sources: &[Source]) -> Outcome<()> {
     let name = shown(path);
@@ -66,7 +71,6 @@ fn look_at(path: &Path, force: bool, sources: &[Source]) -> Outcome<()> {
         Err(error) if error.kind() == ErrorKind::NotFound => return Ok(()),
         there => of_system(&name, there)?,
     };
-    let known = |file: &Metadata| (file.dev(), file.ino());
     // none for a link to nothing
     let led_to = fs::metadata(path).ok();
     for source in sources {
@@ -83,6 +87,14 @@ fn look_at(path: &Path, force: bool, sources: &[Source]) -> Outcome<()> {
         failed(&name, "it is there already; --force replaces it")
     } else {
         Ok(())
+    }
+}
+
+/// Removes the empty file that has taken a name, if it is still the one there and still empty.
+fn give_up(path: &Path, taken: &Metadata) {
+    let there = fs::symlink_metadata(path);
+    if there.map_or(false, |there| known(&there) == known(taken) && there.len() == 0) {
+        let _ = fs::remove_file(path);
     }
 }
 
@@ -113,13 +125,17 @@ impl<'a> NewFile<'a> {
     }
 
     /// A file that was made meanwhile is not overwritten: a link is refused then, as a renaming is not. Where the file system has no links
-    /// the name is taken first, by an empty file.
+    /// the name is taken first, by an empty file, which is closed before the renaming: some file systems rename over no open one.
     fn link(&self) -> io::Result<()> {
         let Temporary(temporary) = &self.temporary;
         match fs::hard_link(temporary, self.path) {
             Err(error) if error.kind() != ErrorKind::AlreadyExists => {
-                OpenOptions::new().write(true).create_new(true).open(self.path)?;
-                fs::rename(temporary, self.path)
+                let taken = OpenOptions::new().write(true).create_new(true).open(self.path)?.metadata();
+                let renamed = fs::rename(temporary, self.path);
+                if let (Err(_), Ok(taken)) = (&renamed, taken) {
+                    give_up(self.path, &taken);
+                }
+                renamed
             }
             linked => linked,
         }
