@@ -20,6 +20,7 @@ from intake_test import COMPLETE, FAILED, LEFT, LIMIT, PAYLOAD, REFUSED, WRONG_U
 
 PACKET, HEADER = 42, 1536
 MOST = 6470444  # packets of the longest file
+MOST_READ = LIMIT // 40  # packets that are read at most
 
 
 def source(name):
@@ -138,6 +139,16 @@ def refusals(trial):
             changed[place] = 1 + rng.randrange(255)
         for cut in (0, 1):
             trial.write(f"byte 40 set at {places}", good, bytes(changed[:len(changed) - cut]))
+
+
+def header_first(trial):
+    """A header that is refused is told while packets may still come."""
+    read_end, write_end = os.pipe()
+    for header in (b"", BARE[:-1], b"\x07" + BARE[1:]):
+        trial.give(header, None)
+        trial.run("a bad header, and packets to come", [trial.header, "-", trial.out], (refused(15, 0), None, REFUSED), stdin=read_end)
+    os.close(write_end)
+    os.close(read_end)
 
 
 def from_intakes(trial, readers):
@@ -322,6 +333,12 @@ def over_the_limit(trial):
         trial.run(f"too many packets, {packets}", [trial.header, packets, trial.out], (refused(17, LIMIT), None, REFUSED))
     os.truncate(trial.given, PACKET * MOST + 1)
     trial.run("a cut packet after too many", trial.all, (refused(16, MOST), None, REFUSED))
+    os.truncate(trial.given, PACKET * MOST_READ + 100)
+    for bad, told in ((MOST_READ, refused(17, LIMIT)), (MOST_READ - 1, refused(16, MOST_READ - 1))):
+        with open(trial.given, "r+b") as f:
+            f.seek(PACKET * bad + 40)
+            f.write(b"x")
+        trial.run(f"packet {bad} is bad", trial.all, (told, None, REFUSED))
     trial.run("a header without an end", ["/dev/zero", trial.given, trial.out], (refused(15, 0), None, REFUSED))
 
 
@@ -342,12 +359,15 @@ def main():
         own = os.path.dirname(trial.folder)
         written(trial, readers)
         refusals(trial)
+        header_first(trial)
         from_intakes(trial, readers)
         wrong_uses(trial, own)
         not_replaced(trial, own)
         links_replaced(trial, own)
         failing_outputs(trial, own)
         made_meanwhile(trial)
+        trial.give(BARE, None)
+        intake_test.lost_meanwhile(trial, [trial.header, "-", trial.out], TWO)
         taken_name(trial)
         closed_streams(trial)
         over_the_limit(trial)

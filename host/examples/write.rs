@@ -15,8 +15,8 @@ use std::process::ExitCode;
 
 /// One byte over a header is enough to be refused, so that no more are read.
 const MOST_OF_HEADER: usize = DS2_START.0 + 1;
-/// A packet has at least 40 bytes of the recording, so that so many are over the limit and refused, and no more are read. They are whole ones:
-/// what is left out is not taken for cut.
+/// A packet has at least 40 bytes of the recording: with the header's, so many are over the limit and refused, so that no more are read. They
+/// are whole ones: what is left out is not taken for cut.
 const MOST_OF_PACKETS: usize = PACKET * (LIMIT / 40);
 /// How much is read at a time.
 const PART: usize = 1 << 20;
@@ -31,8 +31,12 @@ HEADER or PACKETS may be -, which is standard input.
 The line, and the exit status:
   written: 1234 packets, 52736 bytes                                                   0
   refused 16 7: packet 7 is cut short, or its byte 40 is not 0                         3
-What is written is complete as announced, and reading it gives the same packets. Zeros in the place of bytes that were missing are
-bytes of the recording then. If it is refused nothing is written.
+What is written is complete as announced, and reading it gives the same packets. Zeros that stand for bytes that were missing are
+then bytes of the recording like others. If it is refused nothing is written.
+
+No packets give a bare header. A list that ends between packets cannot be told from a whole one: what came of an input that failed
+before its end, be it an empty pipe, is written as it came. Of a list longer than any that can be written only so much is read as
+shows that: it is refused by 17, and a bad packet behind, which the archive would name by 16 if it were given all, is not found.
 
 The other exit statuses, with a line on standard error:
   4   input or output failed; but for a line that could not be printed, OUT is as it was
@@ -40,8 +44,9 @@ The other exit statuses, with a line on standard error:
 Statuses 1 and 2 are not given.
 
 --force replaces a file OUT that is there already, which is else left as it is; of a link the link itself, and not what it leads
-to. Neither HEADER nor PACKETS, nor a DSS or DS2 recording, nor what is not a file is ever replaced, nor a link to one. A run that is
-killed may leave its temporary file .write-PID beside OUT.
+to. Neither HEADER nor PACKETS, nor a DSS or DS2 recording, nor what is not a file is ever replaced, nor a link to one. What an
+earlier run has written is a recording too, so that a second run needs another OUT. A run that is killed may leave its temporary
+file .write-PID beside OUT.
 ";
 
 const WRITE: Program = Program { name: "write", help: HELP };
@@ -104,7 +109,10 @@ fn run(names: Vec<OsString>, force: bool) -> Outcome<(String, u8)> {
     let packets = Input::open(&packets, "it is the packets themselves")?;
     let sources = [header.source(), packets.source()];
     let mut output = NewFile::create(WRITE.name, Path::new(&out), force, &sources)?;
-    let (file, number) = recording(&header.read(MOST_OF_HEADER)?, &packets.read(MOST_OF_PACKETS)?)?;
+    let head = header.read(MOST_OF_HEADER)?;
+    // a header that is refused is told before packets are waited for
+    ds2_sp_file_size(&head, &[])?;
+    let (file, number) = recording(&head, &packets.read(MOST_OF_PACKETS)?)?;
     output.put(&file)?;
     output.put_in_place(&sources)?;
     Ok((format!("written: {number} packets, {} bytes", file.len()), status::COMPLETE))
