@@ -250,9 +250,9 @@ KLOV_MUST_USE klov_answer klov_lenient_end(klov_reader *reader, uint8_t *out, si
 
 /* A DS2 SP file: the header as it is, KLOV_DS2_START bytes that begin `\x01ds2` or `\x03ds2`, and blocks of the packets, which are joined,
  * KLOV_PACKET bytes each, byte 40 of each 0, as the SP calls hand them out. Read whole it gives the same packets, each with its full count,
- * and it is complete as announced: what was zeros that nobody recorded is bytes of the file then. first: bytes of the file, which are the
- * first of `out`; what lies past them is as it was. With no room, out_len 0, a call says by 8 how many bytes the file has. Refusals 15, 16,
- * 17, 8. */
+ * and it is complete as announced: zeros that stand for bytes that were missing are then bytes of the file like others. first: bytes of the
+ * file, which are the first of `out`; what lies past them is as it was. With no room, out_len 0, a call says by 8 how many bytes the file has.
+ * Refusals 15, 16, 17, 8. */
 KLOV_MUST_USE klov_answer klov_write_ds2_sp(const uint8_t *header, size_t header_len, const uint8_t *packets, size_t packets_len, uint8_t *out, size_t out_len);
 
 /* What follows is no part of the archive. */
