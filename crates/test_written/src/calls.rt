@@ -5,23 +5,23 @@ use test_tools::all_differ;
 use test_tools::digest;
 use writing::Written;
 
-// What a case came to: whether the call was answered, whether the file gave the packets back, and how many numbers were not those expected.
+// What a case came to, 1 or 0: whether the call was answered, and whether the file gave the packets back.
 pub struct Came {
     pub answered: usize,
     pub back: usize,
-    pub wrong: usize,
 }
 
-// An answer in numbers: the refusal and the number beside it, and how long the file is.
-fn numbers_of(answer: Written) -> [u64; 3] {
+// The call, and its answer in numbers: the refusal and the number beside it, and how long the file is.
+fn wrote(header: &[u8], packets: &[u8], out: &mut [u8]) -> [u64; 3] {
+    let answer = writing::write_ds2_sp(header, packets, out);
     match answer {
         Written::Refused(why) => [why.number, why.beside, 0],
         Written::Bytes(size) => [0, 0, size as u64],
     }
 }
 
-// How many numbers of an answer are not those of the list; the last is a digest of all that was lent for the file.
-fn answer_differs(case: [u64; 16], said: [u64; 3], out: &[u8]) -> usize {
+// Holds an answer to the list, and a digest of all that was lent for the file.
+fn hold_answer(case: [u64; 16], said: [u64; 3], out: &[u8]) {
     let got = [said[0], said[1], said[2], digest(0, out, out.len())];
     all_differ(
         b"case ",
@@ -29,48 +29,47 @@ fn answer_differs(case: [u64; 16], said: [u64; 3], out: &[u8]) -> usize {
         &case[making::ANSWERS..],
         &got,
         4,
-    )
+    );
 }
 
-// How many numbers of a file's whole reading are not those of the packets that it was written from: the refusal and the number beside it,
-// how many packets, and digests of them and of their counts.
-fn back_differs(case: [u64; 16], file: &[u8], packets: &[u8]) -> usize {
+// 1 where a file's whole reading gives the packets that it was written from, and else 0: no refusal and nothing beside it, how many packets,
+// and digests of them and of their counts.
+fn read_back(case: [u64; 16], file: &[u8], packets: &[u8]) -> usize {
     let mut again = [165u8; 25620];
     let mut counts = [165u8; 1024];
-    let answer = sp::demux_ds2(file, &mut again, &mut counts);
+    let answer = test_sums::demux(file, false, &mut again, &mut counts);
     let came = test_sums::told(answer, &again, &counts);
     let many = (packets.len() / 42) as u64;
     let bytes = digest(0, packets, packets.len());
     let expected = [0, 0, many, bytes, case[making::COUNTS]];
-    all_differ(b"file of case ", case[making::CASE], &expected, &came, 5)
+    let unlike = all_differ(b"file of case ", case[making::CASE], &expected, &came, 5);
+    if unlike == 0 { 1 } else { 0 }
 }
 
 // What a call answered and left.
 fn told(case: [u64; 16], said: [u64; 3], packets: &[u8], out: &[u8]) -> Came {
-    let wrong = answer_differs(case, said, out);
+    hold_answer(case, said, out);
     if said[0] != 0 {
         return Came {
             answered: 0,
             back: 0,
-            wrong,
         };
     }
     let size = tables::lesser(said[2] as usize, out.len());
-    let unlike = back_differs(case, &out[0..size], packets);
     Came {
         answered: 1,
-        back: if unlike == 0 { 1 } else { 0 },
-        wrong: test_tools::sum(wrong, unlike),
+        back: read_back(case, &out[0..size], packets),
     }
 }
 
 // The call, with so much lent.
 fn called(case: [u64; 16], header: &[u8], packets: &[u8], out: &mut [u8]) -> Came {
-    let answer = writing::write_ds2_sp(header, packets, out);
-    told(case, numbers_of(answer), packets, out)
+    let said = wrote(header, packets, out);
+    told(case, said, packets, out)
 }
 
-// A case by its numbers. Where one is larger than what there is room for, an answer is not the one expected.
+// A case by its numbers, each as far as there is room for it: with more packets or output the answers are others, and a longer header is
+// refused all the same.
 pub fn one_case(case: [u64; 16]) -> Came {
     let header = making::header_of(case);
     let packets = making::packets_of(case);

@@ -1,6 +1,6 @@
 // Replays a fixed list of headers and packets for the writer of DS2 SP files, from standard input, and says how many cases there were, how
-// many were answered, how many of the files gave their packets back, and how much was wrong; each difference gets a line. make.py makes the
-// list, and says what it holds and why refusal 17 is not in it. Rests on writing and sp, on test_expected and test_sums and what these share.
+// many were answered, and how many of the files gave their packets back; each difference gets a line. make.py makes the list, and says what
+// it holds and why refusal 17 is not in it. Rests on writing and sp, on test_expected and test_sums and what these share.
 use libc::STDIN_FILENO;
 use libc::STDOUT_FILENO;
 use test_tools::say;
@@ -12,39 +12,30 @@ mod calls;
 // What is lent for it.
 mod making;
 
-// Whether there is a case more.
-fn goes_on(list: &[u8], at: usize) -> bool {
-    let seen = test_expected::begin();
-    test_expected::goes_on(list, test_expected::read_to(seen, at))
+// The line at the end.
+fn conclude(cases: usize, answered: usize, back: usize) {
+    say(b"cases ", cases as u64);
+    say(b", answered ", answered as u64);
+    say(b", read back ", back as u64);
+    io::write_all(STDOUT_FILENO, b"\n");
 }
 
 // Runs through the list. A case has some numbers, so there are no more cases than bytes.
 fn run(list: &[u8]) {
-    let mut at: usize = 0;
+    let mut seen = test_expected::begin();
     let mut answered: usize = 0;
     let mut back: usize = 0;
-    let mut wrong: usize = 0;
     let mut cases: usize = 0;
-    while cases < list.len() && goes_on(list, at) {
-        let case = test_expected::read(list, at, making::NUMBERS);
+    while cases < list.len() && test_expected::goes_on(list, seen) {
+        let case = test_expected::read(list, seen.at, making::NUMBERS);
         let numbers = case.values;
         let came = calls::one_case(numbers);
-        at = case.at;
+        seen = test_expected::read_to(seen, case.at);
         answered = sum(answered, came.answered);
         back = sum(back, came.back);
-        wrong = sum(wrong, came.wrong);
         cases += 1;
     }
-    conclude(cases, answered, back, wrong);
-}
-
-// The line at the end.
-fn conclude(cases: usize, answered: usize, back: usize, wrong: usize) {
-    say(b"cases ", cases as u64);
-    say(b", answered ", answered as u64);
-    say(b", read back ", back as u64);
-    say(b", wrong ", wrong as u64);
-    io::write_all(STDOUT_FILENO, b"\n");
+    conclude(cases, answered, back);
 }
 
 fn main() {

@@ -71,8 +71,8 @@ fn swapped_read(packets: &[u8], from: usize) -> [u8; 48]
     packets::blend(packet)
 }
 
-// For the crates above too. Puts the packet at this place of the list under a number, behind all that have a lower one, and counts it. Where it is
-// swapped its byte 1 goes into the read before it.
+// For the crates above too. Puts the packet at this place of the list under a number, behind all that have a lower one, and counts it. Where it
+// is swapped its byte 1 goes into the read before it.
 pub fn put_packet(out: &mut [u8], number: usize, packets: &[u8], from: usize)
     requires there { ⌜ from + 42 ≤ length (now packets) ⌝ }
     requires room { ⌜ (number < 2 ^ 24) × (1536 + 512 * ((reach false (number + 1) + 505) / 506) ≤ length (now out)) ⌝ }

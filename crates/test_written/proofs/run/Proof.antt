@@ -7,10 +7,13 @@ use Rattle.test_written.proofs.run.Statement.{statement}
 use Rattle.test_written.proofs.run.Tie as tie
 
 abbrev Inv-loop : tie.InvT-loop
-Inv-loop list at₀ answered₀ back₀ wrong₀ cases₀ at answered back wrong cases = cases ≤ length list
+Inv-loop list seen₀ answered₀ back₀ cases₀ seen answered back cases = cases ≤ length list
 
 abbrev μ-loop : tie.MeasureT-loop
-μ-loop list at₀ answered₀ back₀ wrong₀ cases₀ at answered back wrong cases = length list - cases
+μ-loop list seen₀ answered₀ back₀ cases₀ seen answered back cases = length list - cases
+
+begin-requires : tie.Need-begin-requires Inv-loop μ-loop
+begin-requires c κs = search needs
 
 loop-holds : tie.Need-loop-holds Inv-loop μ-loop
 loop-holds c = search needs
@@ -24,14 +27,14 @@ read-requires c κs = search needs
 one-case-requires : tie.Need-one-case-requires Inv-loop μ-loop
 one-case-requires c κs = search needs
 
+read-to-requires : tie.Need-read-to-requires Inv-loop μ-loop
+read-to-requires c κs = search needs
+
 sum-requires : tie.Need-sum-requires Inv-loop μ-loop
 sum-requires c κs = search needs
 
 sum-requires-2 : tie.Need-sum-requires-2 Inv-loop μ-loop
 sum-requires-2 c κs = search needs
-
-sum-requires-3 : tie.Need-sum-requires-3 Inv-loop μ-loop
-sum-requires-3 c κs = search needs
 
 add-cases : tie.Need-add-cases Inv-loop μ-loop
 add-cases c = search needs
@@ -54,13 +57,14 @@ run-spec =
     (tie.spec
     Inv-loop
     μ-loop
+    begin-requires
     loop-holds
     goes-on-requires
     read-requires
     one-case-requires
+    read-to-requires
     sum-requires
     sum-requires-2
-    sum-requires-3
     add-cases
     loop-less
     loop-again
