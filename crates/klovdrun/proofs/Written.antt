@@ -1,20 +1,22 @@
--- What a host has that writes a file: numbers that say so, a file that reads back, and one that is complete as announced.
+-- What a host has that writes a file: numbers that say so or why not, a file that reads back, and one that is complete as announced.
 -- Assumes nothing.
 use Prim.Native.Nat.{ℕ, _≤_, _<_}
-use mathlib.Core.Path.{_≡_, refl, sym, ap, _∙_}
+use mathlib.Core.Path.{_≡_, refl, sym, ap, _∙_, subst}
 use mathlib.Core.List.{List}
 use native.Mathlib.Omega.{arith}
 use lib.ListN.{length, take, length-take}
-use Rattle.tables.proofs.Cases.{never}
+use Rattle.tables.proofs.Cases.{by-order, never}
 use Rattle.blocks.specs.Places.{limit}
 use Rattle.refusals.specs.Said.{answers}
-use Rattle.refusals.proofs.Said.{for-the-answer}
+use Rattle.refusals.proofs.Said.{not-both, for-the-answer}
 use Rattle.packets.specs.Packet.{readSize}
 use Rattle.sp.specs.Readings.{Reading, total, CompleteAt}
 use Rattle.sp.proofs.Theorems.{whole-exactly}
-use Rattle.writing.specs.Outcome.{writtenSays}
+use Rattle.writing.specs.Outcome.{sizeOf, writtenSays}
+use Rattle.writing.specs.Writable.{Writable, Unwritable}
 use Rattle.writing.specs.ReadBack.{ReadsBack}
 use Rattle.writing.proofs.Theorems.{accepted, written-is-sp, written-reads-back}
+use Rattle.writing.proofs.Exactly.{answered-exactly, refused-exactly}
 use Rattle.tally.specs.Tallies.{tallied}
 use Rattle.reader.specs.State.{readingBy}
 use Rattle.reader.specs.Agreement.{Agrees}
@@ -27,7 +29,28 @@ use Rattle.klovdrun.specs.Announced.{AsAnnounced}
 use Rattle.klovdrun.proofs.Theorems.{write-tells}
 use Rattle.klovdrun.proofs.Announced.{tallied-as}
 
--- a host's call of `klov_write_ds2_sp` that answered
+-- a host's call of `klov_write_ds2_sp`
+module _ {header packets out out′ : List ℕ} {r : Answer} (c : WriteCarries header packets out out′ r) where
+  -- What may be written is written: refusal is 0, and first the file's length.
+  pub told-written : Writable header packets (length out) → (r .refusal ≡ 0) × (r .first ≡ sizeOf packets)
+  told-written may =
+      let said = sym (c .comes .answer-is) ∙ answered-exactly header packets out out′ (c .answer) (c .comes) .0 may in
+      by-order 0 (r .refusal)
+      (λ some. absurd (not-both (sym (write-tells c .above some .1) ∙ said)))
+      (λ none.
+      let t = write-tells c .zero (omega arith) in
+      (omega arith, for-the-answer (λ n. r .first ≡ n) (sym (t .1) ∙ said) (t .3)))
+
+  -- Whatever refusal is told, its number and the one beside it say why.
+  pub told-why : 0 < r .refusal → Unwritable header packets (length out) (r .refusal) (r .beside)
+  told-why some =
+      let t = write-tells c .above some in
+      let why = t .0 in
+      let said = refused-exactly header packets out out′ (c .answer) (c .comes) (why .number) (why .beside) .1 (c .comes .answer-is ∙ t .1) in
+      subst (λ (number : ℕ). Unwritable header packets (length out) number (r .beside)) (sym (t .2))
+      (subst (λ (beside : ℕ). Unwritable header packets (length out) (why .number) beside) (sym (t .3)) said)
+
+-- one that answered
 module _ {header packets out out′ : List ℕ} {r : Answer} (c : WriteCarries header packets out out′ r) (answered : r .refusal ≡ 0) where
   says : writtenSays (c .answer) ≡ answers (r .first)
   says =

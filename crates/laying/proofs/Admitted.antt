@@ -6,13 +6,14 @@ use mathlib.Core.List.{List}
 use mathlib.Core.Bool.{Bool, true, false, _||_}
 use mathlib.Core.Logic.{_⊎_, inl, inr, ⊎-elim}
 use native.Mathlib.Omega.{arith}
-use borrow.Author.Tests.{eqb-true, ne-eqb, le-ltb}
+use borrow.Author.Tests.{eqb-true, eq-eqb, ne-eqb, le-ltb}
 use lib.ListN.{length, getD}
 use lib.Dec.{eqb}
 use Rattle.tables.proofs.Tests.{both-hold}
 use Rattle.blocks.specs.Places.{limit}
 use Rattle.magic.specs.declared.Magic.the-variants.{Ds2}
 use Rattle.magic.specs.Magics.{magicOf, spells, ds2By}
+use Rattle.magic.proofs.Names.{ds2-spelt}
 use Rattle.refusals.specs.Said.{answers}
 use Rattle.detect.specs.Start.{audioStart}
 use Rattle.detect.specs.Kinds.{readAs}
@@ -20,7 +21,7 @@ use Rattle.detect.specs.declared.Kind.{Kind}
 use Rattle.whole.specs.declared.Recording.{Recording}
 use Rattle.whole.specs.Admissions.{admission, admissionAt, ds2Admission, typeIn}
 use Rattle.whole.proofs.Admissions.{admitted, ds2-at, ds2-goes-on, of-that-kind}
-use Rattle.laying.specs.Header.{isHeader}
+use Rattle.laying.specs.Header.{isHeader, Header}
 use Rattle.laying.specs.Laid.{Laid, blocksFor, sizeFor, laidFile}
 use Rattle.laying.proofs.Files.{file-long, header-at}
 
@@ -37,12 +38,6 @@ magic-kept f g one other same =
     let e₂ : getD f 2 0 ≡ getD g 2 0 = same 2 (omega arith) in
     let e₃ : getD f 3 0 ≡ getD g 3 0 = same 3 (omega arith) in
     rw (e₀, e₁, e₂, e₃) (simp (le-ltb (length f) 4 one, le-ltb (length g) 4 other))
-
--- what makes a file be taken for DS2 whose audio starts at 1,536: so many bytes, the magic, and a first byte below 7
-pub record Header (header : List ℕ) : Type 0 where
-  pub long : length header ≡ 1536
-  pub magic : magicOf header ≡ Ds2
-  pub fixed : getD header 0 0 < 7
 
 one-holds : (a b : Bool) → (a || b) ≡ true → (a ≡ true) ⊎ (b ≡ true)
 one-holds true b e = inl refl
@@ -69,6 +64,17 @@ header-is header is =
     ⊎-elim (λ one. begins header 1 long (eqb-true (getD header 0 0) 1 one) (three .1) refl (omega arith))
     (λ other. begins header 3 long (eqb-true (getD header 0 0) 3 other) (three .1) refl (omega arith))
     (one-holds (eqb (getD header 0 0) 1) (eqb (getD header 0 0) 3) (two .1))
+
+-- and no other header is
+first-is : (x : ℕ) → x < 7 → (eqb x 1 || eqb x 3 || eqb x 7) ≡ true → (eqb x 1 || eqb x 3) ≡ true
+first-is x small is =
+    ⊎-elim (λ one. one) (λ seven. absurd (omega (arith, eqb-true x 7 seven))) (one-holds (eqb x 1 || eqb x 3) (eqb x 7) is)
+
+pub header-if : (header : List ℕ) → Header header → isHeader header ≡ true
+unfolding isHeader
+header-if header h =
+    let spelt = ds2-spelt header (h .magic) in
+    simp (eq-eqb (length header) 1536 (h .long), first-is (getD header 0 0) (h .fixed) (spelt .1), spelt .0)
 
 module _ (header : List ℕ) (l : Laid) (good : Header header) (small : sizeFor l ≤ limit) where
   pub magic-is : magicOf (laidFile header l) ≡ Ds2

@@ -1,7 +1,7 @@
--- What the magic says of bytes 1 to 3: DSS has `dss` there, and DS2 has not.
+-- What the magic says of bytes 1 to 3: DSS has `dss` there, and DS2 has not: it has `ds2`, behind one of its first bytes.
 -- Assumes nothing.
 use Prim.Native.Nat.{ℕ}
-use mathlib.Core.Path.{_≡_, ap}
+use mathlib.Core.Path.{_≡_, refl, ap}
 use mathlib.Core.List.{List}
 use mathlib.Core.Bool.{Bool, true, false, cond, _||_}
 use native.Mathlib.Omega.{arith}
@@ -27,22 +27,37 @@ by-dss false true six e = omega (arith, e)
 by-dss false false true e = omega (arith, e)
 by-dss false false false e = omega (arith, e)
 
--- without
-by-others : (few ds2 one enc three : Bool) → (number (cond few Other (cond ds2 (cond one Ds2 Other) (cond enc (cond three Encrypted Other) Other))) ≡ 0) → ⊥
-by-others true ds2 one enc three e = omega (arith, e)
-by-others false true true enc three e = omega (arith, e)
-by-others false true false enc three e = omega (arith, e)
-by-others false false one true true e = omega (arith, e)
-by-others false false one true false e = omega (arith, e)
-by-others false false one false three e = omega (arith, e)
+-- without it
+abbrev others : Bool → Bool → Bool → Bool → Bool → ℕ
+others few ds2 one enc three = number (cond few Other (cond ds2 (cond one Ds2 Other) (cond enc (cond three Encrypted Other) Other)))
 
-pub dss-named : (f : List ℕ) → magicOf f ≡ Dss → namesDss f ≡ true
-unfolding magicOf namesDss ds2By encBy
-dss-named f e = by-test (namesDss f) (λ h. h) (λ h. absurd (
-    by-others (ltb (length f) 4) (spells f 100 115 50) (eqb (getD f 0 0) 1 || eqb (getD f 0 0) 3 || eqb (getD f 0 0) 7) (spells f 101 110 99)
-    (eqb (getD f 0 0) 3) (ap number (rw h at e))))
+by-others : (few ds2 one enc three : Bool) → (others few ds2 one enc three ≡ 0 → ⊥) × (others few ds2 one enc three ≡ 1 → (ds2 ≡ true) × (one ≡ true))
+by-others true ds2 one enc three = (λ e. omega (arith, e), λ e. absurd (omega (arith, e)))
+by-others false true true enc three = (λ e. omega (arith, e), λ e. (refl, refl))
+by-others false true false enc three = (λ e. omega (arith, e), λ e. absurd (omega (arith, e)))
+by-others false false one true true = (λ e. omega (arith, e), λ e. absurd (omega (arith, e)))
+by-others false false one true false = (λ e. omega (arith, e), λ e. absurd (omega (arith, e)))
+by-others false false one false three = (λ e. omega (arith, e), λ e. absurd (omega (arith, e)))
 
-pub ds2-not-named : (f : List ℕ) → magicOf f ≡ Ds2 → namesDss f ≡ false
-unfolding magicOf namesDss dssBy
-ds2-not-named f e = by-test (namesDss f) (λ h. absurd (
-    by-dss (ltb (length f) 4) (eqb (getD f 0 0) 2 || eqb (getD f 0 0) 3) (eqb (getD f 0 0) 6) (ap number (rw h at e)))) (λ h. h)
+module _ (f : List ℕ) where
+  -- DS2's first bytes
+  abbrev first : Bool
+  first = eqb (getD f 0 0) 1 || eqb (getD f 0 0) 3 || eqb (getD f 0 0) 7
+
+  without : (others (ltb (length f) 4) (spells f 100 115 50) first (spells f 101 110 99) (eqb (getD f 0 0) 3) ≡ 0 → ⊥)
+      × (others (ltb (length f) 4) (spells f 100 115 50) first (spells f 101 110 99) (eqb (getD f 0 0) 3) ≡ 1
+      → (spells f 100 115 50 ≡ true) × (first ≡ true))
+  without = by-others (ltb (length f) 4) (spells f 100 115 50) first (spells f 101 110 99) (eqb (getD f 0 0) 3)
+
+  pub dss-named : magicOf f ≡ Dss → namesDss f ≡ true
+  unfolding magicOf namesDss ds2By encBy
+  dss-named e = by-test (namesDss f) (λ h. h) (λ h. absurd (without .0 (ap number (rw h at e))))
+
+  pub ds2-not-named : magicOf f ≡ Ds2 → namesDss f ≡ false
+  unfolding magicOf namesDss dssBy
+  ds2-not-named e = by-test (namesDss f) (λ h. absurd (
+      by-dss (ltb (length f) 4) (eqb (getD f 0 0) 2 || eqb (getD f 0 0) 3) (eqb (getD f 0 0) 6) (ap number (rw h at e)))) (λ h. h)
+
+  pub ds2-spelt : magicOf f ≡ Ds2 → (spells f 100 115 50 ≡ true) × ((eqb (getD f 0 0) 1 || eqb (getD f 0 0) 3 || eqb (getD f 0 0) 7) ≡ true)
+  unfolding magicOf namesDss ds2By encBy
+  ds2-spelt e = let h = ds2-not-named e in without .1 (ap number (rw h at e))

@@ -6,3 +6,4 @@ pub mod Outcome
 pub mod ReadBack
 pub mod Described
 pub mod Theorems
+pub mod Exactly

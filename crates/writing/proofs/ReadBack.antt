@@ -25,10 +25,11 @@ use Rattle.sp.specs.ReadLists.{ds2Run, ds2Runs}
 use Rattle.sp.specs.Readings.{Reading, total, walkAt, fileCountAt, readingOf, ds2Reading}
 use Rattle.sp.proofs.Runs.{stands-first}
 use Rattle.sp.proofs.ReadLists.{ds2-packets}
+use Rattle.laying.specs.Header.{Header}
 use Rattle.laying.specs.Laid.{blocksFor, sizeFor, countIn, headByte, laidFile}
 use Rattle.laying.proofs.Frames.{first-none, first-all}
 use Rattle.laying.proofs.Files.{file-long, head-at, type-at, type-all, announced-is, stream-is}
-use Rattle.laying.proofs.Admitted.{recordingOf, Header, laid-taken}
+use Rattle.laying.proofs.Admitted.{recordingOf, laid-taken}
 use Rattle.writing.specs.Laying.{carriedOn, laidRead, laidAt, spLaid}
 use Rattle.writing.proofs.Inverse.{gives-back}
 use Rattle.writing.proofs.Laying.{even-is, laid-in, read-is, carried-is}

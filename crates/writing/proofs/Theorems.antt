@@ -5,7 +5,7 @@ use mathlib.Core.Path.{_≡_, refl, sym, ap, _∙_, subst}
 use mathlib.Core.List.{List}
 use mathlib.Core.Bool.{true, false}
 use native.Mathlib.Omega.{arith}
-use borrow.Author.Tests.{eqb-true, eqb-false, leb-true}
+use borrow.Author.Tests.{eqb-true, leb-true}
 use denote.Ref.{now}
 use lib.ListN.{length, getD, take, drop, length-drop}
 use lib.Seq.{length-take-le, getD-take, getD-drop, ext-getD}
@@ -13,7 +13,6 @@ use lib.Dec.{leb, eqb}
 use Rattle.tables.specs.Settled.{SettledAs}
 use Rattle.tables.specs.Table.{table}
 use Rattle.tables.specs.Lent.{over}
-use Rattle.tables.proofs.Cases.{by-order}
 use Rattle.tables.proofs.Table.{same-table, is-table}
 use Rattle.tables.proofs.Lent.{leaves-at, over-long, over-in, over-past}
 use Rattle.blocks.specs.Places.{limit, wholeBlocks}
@@ -21,8 +20,8 @@ use Rattle.magic.specs.declared.Magic.the-variants.{Ds2}
 use Rattle.magic.specs.Magics.{magicOf}
 use Rattle.detect.specs.Kinds.{formatType}
 use Rattle.refusals.specs.declared.Refusal.{Refusal}
-use Rattle.refusals.specs.Said.{Said, answers, refusal, refuses}
-use Rattle.refusals.proofs.Said.{not-both, for-the-answer, passed, by-demand, only-one, readFrom}
+use Rattle.refusals.specs.Said.{Said, answers, refusal}
+use Rattle.refusals.proofs.Said.{for-the-answer, passed, only-one, readFrom}
 use Rattle.packets.specs.Packet.{readSize}
 use Rattle.packets.specs.Walk.{parity}
 use Rattle.sp.specs.declared.Demuxed.{Demuxed}
@@ -37,10 +36,10 @@ use Rattle.laying.proofs.Admitted.{header-is, magic-is}
 use Rattle.writing.specs.declared.Written.{Written}
 use Rattle.writing.specs.declared.Written.the-variants.{Bytes, Refused}
 use Rattle.writing.specs.Laying.{manyIn, byteIn, listLaid}
-use Rattle.writing.specs.Outcome.{Sound, soundIn, sizeOf, writtenSize, outAfter, writtenSays, Writes}
+use Rattle.writing.specs.Outcome.{soundIn, sizeOf, writtenSize, outAfter, writtenSays, Writes}
 use Rattle.writing.specs.ReadBack.{ReadsBack}
 use Rattle.writing.specs.Described.{Described}
-use Rattle.writing.proofs.Outcome.{sound-each, sound-most, sound-not}
+use Rattle.writing.proofs.Outcome.{sound-each}
 use Rattle.writing.proofs.Described.{laid-described}
 use Rattle.writing.proofs.ReadBack.{readingBack, total-back, byte-back, swap-back, full-back, type-is, is-read-back}
 use Rattle.writing.proofs.write_ds2_sp.Kinds as writes
@@ -80,31 +79,6 @@ module _ (header packets out out′ : List ℕ) (answer : Written) (w : Writes h
   pub refused-changes-nothing : (why : Refusal) → writtenSays answer ≡ refusal why → out′ ≡ out
   refused-changes-nothing why e =
       w .out-is ∙ ap (λ (said : Said ℕ). outAfter said header packets out) (sym (w .answer-is) ∙ e)
-
-  -- Refusal 16 names the first packet that is not sound: there is something of it, and all before it are.
-  pub first-unsound : (k : ℕ) → writtenSays answer ≡ refuses 16 k
-      → ((j : ℕ) → j < k → Sound packets j) × (42 * k < length packets) × (Sound packets k → ⊥)
-  unfolding writtenSize
-  first-unsound k e =
-      by-demand (isHeader header) (sym (w .answer-is) ∙ e)
-      (λ good rest.
-      by-demand (eqb (42 * soundIn packets) (length packets)) rest
-      (λ all after.
-      by-demand (leb (sizeOf packets) limit) after
-      (λ small last. by-demand (leb (sizeOf packets) (length out)) last (λ fits none. absurd (not-both (sym none))) (λ less number beside. omega (arith, number)))
-      (λ over number beside. omega (arith, number)))
-      (λ other number is. subst Unsound is (here (eqb-false (42 * soundIn packets) (length packets) other))))
-      (λ bad number beside. omega (arith, number))
-    where
-      Unsound : ℕ → Type 0
-      Unsound m = ((j : ℕ) → j < m → Sound packets j) × (42 * m < length packets) × (Sound packets m → ⊥)
-
-      here : (42 * soundIn packets ≡ length packets → ⊥) → Unsound (soundIn packets)
-      here other = (
-        λ j h. (omega (arith, sound-most packets), sound-each packets j h),
-        omega (arith, sound-most packets, other),
-        λ sound. by-order (soundIn packets) (manyIn packets) (λ less. sound-not packets less (sound .1)) (λ all. omega (arith, sound .0, sound-most packets)),
-      )
 
   module _ (size : ℕ) (e : writtenSays answer ≡ answers size) where
     said : Accepted header packets (length out) size

@@ -2,6 +2,7 @@
 pub mod Reads
 pub mod Laying
 pub mod Outcome
+pub mod Writable
 pub mod ReadBack
 pub mod Described
 -- what only contracts of inner functions speak of

@@ -1,7 +1,7 @@
 -- What the writer of DS2 SP files answers and leaves in the lent output: refusals 15, 16, 17 and 8 with the numbers beside them, or how long
 -- the file is. A refused call leaves the output as it was; an answered one writes the file over its front, and no other byte.
 -- Assumes nothing.
-use Prim.Native.Nat.{ℕ, _+_, _*_, _≤_}
+use Prim.Native.Nat.{ℕ, _*_}
 use mathlib.Core.Path.{_≡_}
 use mathlib.Core.List.{List}
 use lib.ListN.{length}
@@ -15,10 +15,6 @@ use Rattle.laying.specs.Laid.{sizeFor, fileByte}
 use Rattle.writing.specs.declared.Written.{Written}
 use Rattle.writing.specs.declared.Written.the-variants.{Bytes, Refused}
 use Rattle.writing.specs.Laying.{manyIn, byteIn, listLaid}
-
--- packet k of a list is sound: it has all its bytes, and byte 40 is 0
-abbrev pub Sound : List ℕ → ℕ → Type 0
-Sound packets k = (42 * (k + 1) ≤ length packets) × (byteIn packets k 40 ≡ 0)
 
 -- how many packets the list begins with that are all there and have byte 40 at 0: the number of the first that is not so
 unfoldable pub soundIn : List ℕ → ℕ
