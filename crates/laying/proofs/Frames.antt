@@ -108,6 +108,5 @@ module _ (l : Laid) (apart : Apart (l .at)) where
   few-in b =
       by-order 43 (countIn l b)
       (λ many.
-      let j : ℕ = firstIn l b in
       omega (arith, begins-in b (firstIn l b) (omega arith) (omega arith), begins-in b (firstIn l b + 43) (omega arith) (omega arith), spread (l .at) apart (firstIn l b) 43))
       (λ few. few)
