@@ -83,15 +83,15 @@ class Trial(intake_test.Trial):
         self.header, self.given = os.path.join(folder, "header"), os.path.join(folder, "given")
         self.all = [self.header, self.given, self.out]
 
-    def write(self, name, header, joined, by="files", force=False):
-        """Writes a recording of a header and of packets, from files or one of the two through a pipe. With force there is a file, and it
-        is replaced."""
+    def write(self, name, header, joined, by="files", force=False, pipe="-"):
+        """Writes a recording of a header and of packets, from files or one of the two through a pipe, which is called so. With force there is a
+        file, and it is replaced."""
         line, made, status = expected(header, joined)
         self.give(header, joined, LEFT if force else None)
         names, given = list(self.all), {}
         if by != "files":
-            which, names[by == "packets"] = (joined, "-") if by == "packets" else (header, "/dev/stdin")
-            given = {"input": which}
+            names[by == "packets"] = pipe
+            given = {"input": joined if by == "packets" else header}
         self.run(name, (["--force"] if force else []) + names, (line, LEFT if made is None and force else made, status), **given)
 
     def give(self, header, joined, left=None):
@@ -120,7 +120,8 @@ def written(trial, readers):
     for number in (0, 1, 2, 11, 12, 13, 14, 24, 25, 36, 37, 38, 506, 507, *(rng.randrange(200) for _ in range(4))):
         header, joined = header_of(rng, rng.choice((1, 3))), packets_of(rng, number)
         for by in ("files", "packets", "header"):
-            trial.write(f"{number} packets by {by}", header, joined, by, force=number % 2 == 0)
+            pipe = "/dev/stdin" if number % 3 == 0 else "-"
+            trial.write(f"{number} packets by {by}", header, joined, by, force=number % 2 == 0, pipe=pipe)
         trial.read_back(f"{number} packets", readers, joined)
 
 
@@ -368,6 +369,8 @@ def main():
         made_meanwhile(trial)
         trial.give(BARE, None)
         intake_test.lost_meanwhile(trial, [trial.header, "-", trial.out], TWO)
+        trial.give(BARE, TWO)
+        intake_test.unreadable(trial, [folder, own], trial.all)
         taken_name(trial)
         closed_streams(trial)
         over_the_limit(trial)

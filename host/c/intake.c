@@ -281,14 +281,16 @@ static unsigned next_size(struct sizes *s)
 
 /* The packets file, which has another name until it is whole. */
 
-/* Whether a file begins as recordings do. Of a pipe it cannot be told whether it brings this one. */
+/* Whether a file begins as recordings do: of a pipe it cannot be told whether it brings this one. Fails if it cannot be read. */
 static bool is_recording(const char *name)
 {
     uint8_t first[4] = {0};
     FILE *file = fopen(name, "rb");
     if (file == NULL)
-        return false;
+        fail_at(name);
     size_t got = fread(first, 1, sizeof first, file);
+    if (ferror(file))
+        fail_at(name);
     fclose(file);
     return klov_tally(first, got).refusal != KLOV_REFUSED_MAGIC;
 }

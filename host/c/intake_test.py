@@ -9,6 +9,7 @@ import os
 import random
 import re
 import resource
+import shutil
 import subprocess
 import sys
 import tempfile
@@ -19,6 +20,7 @@ COMPLETE, INCOMPLETE, REFUSED, FAILED, WRONG_USE = 0, 1, 3, 4, 64
 PIECES = (1, 7, 512, None, 100000)  # None: no argument, which means 4096
 LONG = 20000  # a longer recording is not read byte by byte, which takes long under an emulator
 LEFT = b"left over" * 20000  # what is in the packets file before
+NOBODY = 65534  # a user who may read only what all may
 
 
 def source(name):
@@ -449,8 +451,11 @@ def recordings():
 # The runs.
 
 def contents(path):
+    """None: no file. What may not be read is read all the same."""
     if not os.path.lexists(path):
         return None
+    if not os.access(path, os.R_OK):
+        os.chmod(path, 0o600)
     with open(path, "rb") as f:
         return f.read()
 
@@ -711,6 +716,24 @@ def lost_meanwhile(trial, names, given):
         trial.hold("lost meanwhile", "" if fine else f"got {program.returncode} {out!r} {errors!r}, left {os.listdir(trial.folder)}")
 
 
+def unreadable(trial, folders, names):
+    """A file that may not be read might be a recording, and stays. Root may read any, so there another user runs a copy of the program."""
+    *rest, program = command = trial.command
+    given = {}
+    if os.geteuid() == 0:
+        copy = shutil.copy(program, os.path.join(folders[-1], "program"))
+        for path in (*folders, copy, *names[:-1]):
+            os.chmod(path, 0o755)
+        os.chmod(trial.folder, 0o777)
+        trial.command, given = rest + [copy], {"user": NOBODY}
+    for options in ([], ["--force"]):
+        write(trial.packets, LEFT)
+        os.chmod(trial.packets, 0)
+        trial.fails("unreadable", options + names, f"{trial.packets}: Permission denied", packets=LEFT, **given)
+    write(trial.packets, None)
+    trial.command = command
+
+
 def taken_name(trial):
     """A file with the temporary file's name is left alone. The shell's process number becomes the program's."""
     write(trial.recording, EMPTY)
@@ -801,6 +824,8 @@ def main():
         failing_outputs(trial, folder)
         made_meanwhile(trial)
         lost_meanwhile(trial, ["-", trial.packets], EMPTY)
+        write(trial.recording, EMPTY)
+        unreadable(trial, [folder], [trial.recording, trial.packets])
         taken_name(trial)
         standard_input(trial)
         closed_streams(trial)

@@ -90,8 +90,8 @@ fn recording(header: &[u8], packets: &[u8]) -> Outcome<(Vec<u8>, usize)> {
     file.resize(size, 0);
     write_ds2_sp_into(header, packets, &mut file)?;
     match tally(&file) {
-        Ok(told) if told.complete_as_announced(size) => Ok((file, told.handed)),
-        _ => Err(Stop::Failed("the tally does not say of what was made that it is complete as announced".into())),
+        Ok(told) if told.complete_as_announced(size) && PACKET * told.handed == packets.len() => Ok((file, told.handed)),
+        _ => Err(Stop::Failed("the tally does not say of what was made that it is complete as announced, with all packets".into())),
     }
 }
 

@@ -7,6 +7,7 @@ use mathlib.Core.Bool.{Bool, true, false}
 use native.Mathlib.Omega.{arith}
 use borrow.Author.Tests.{le-leb, leb-false, eq-eqb, eqb-true}
 use Rattle.tables.proofs.Cases.{by-order}
+use Rattle.tables.proofs.Leading.{Leads, leading-leads, leads-only}
 use Rattle.blocks.specs.Places.{blockAt}
 use Rattle.blocks.specs.Headers.{Bytes, swapOf, firstOf, countOf}
 use Rattle.packets.specs.Walk.{reach}
@@ -14,7 +15,6 @@ use Rattle.packets.proofs.Start.{start-most}
 use Rattle.sp.specs.ReadLists.{dssRun}
 use Rattle.hold.specs.Ready.{endsAt, front}
 use Rattle.hold.specs.Held.{baseAt, blockFits, fitting, fits}
-use Rattle.hold.proofs.Leading.{Leads, leading-leads, leads-only}
 use Rattle.hold.proofs.Ready.{front-leads, dss-base}
 
 reach-near : (swap : Bool) (k : ℕ) → reach swap k ≤ 41 * k + 1

@@ -7,13 +7,13 @@ use mathlib.Core.Bool.{true, false}
 use native.Mathlib.Omega.{arith}
 use borrow.Author.Tests.{le-leb, lt-leb}
 use Rattle.tables.proofs.Cases.{by-order}
+use Rattle.tables.proofs.Leading.{leads-only}
 use Rattle.blocks.specs.Headers.{countOf, announcedIn}
 use Rattle.blocks.proofs.Headers.{announced-more}
 use Rattle.sp.specs.declared.Run.{Run}
 use Rattle.sp.specs.ReadLists.{dssRun}
 use Rattle.hold.specs.Ready.{endsAt, readIn, front}
 use Rattle.hold.specs.Held.{headersFrom}
-use Rattle.hold.proofs.Leading.{leads-only}
 use Rattle.hold.proofs.Ready.{front-leads}
 
 -- every block below b is read in n blocks

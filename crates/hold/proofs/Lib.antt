@@ -1,5 +1,4 @@
 -- The laws and theorems that belong to no one function. They rest on the definitions in specs/.
-pub mod Leading
 pub mod Ready
 pub mod Front
 pub mod Carries

@@ -12,6 +12,7 @@ use lib.Dec.{leb, eqb}
 use Rattle.tables.proofs.Cases.{by-order, by-equal}
 use Rattle.tables.proofs.Table.{table-at, same-table}
 use Rattle.tables.proofs.Lent.{leaves-as}
+use Rattle.tables.proofs.Leading.{leads-further, leads-same, leading-same}
 use Rattle.blocks.specs.Places.{Whole, streamAt}
 use Rattle.blocks.specs.Headers.{flagOf, swapOf, announcedIn}
 use Rattle.blocks.proofs.Headers.{header-kept, announced-kept, announced-upto}
@@ -28,7 +29,6 @@ use Rattle.sp.proofs.Longer.{Extends, stands-alike, same-upto, dss-extends, ds2
 use Rattle.hold.specs.Ready.{readingIn, endsAt, front, ready}
 use Rattle.hold.specs.Held.{baseAt, fitting, fits, headersFrom, waitingAt, firstByte, holdAt}
 use Rattle.hold.specs.Inner.{PartWritten}
-use Rattle.hold.proofs.Leading.{leads-further, leads-same, leading-same}
 use Rattle.hold.proofs.Ready.{total-is, front-leads, front-within, dss-ready, ds2-leads, ready-complete, ready-within, ready-none, reach-upto, dss-base, ds2-base}
 use Rattle.hold.proofs.Carries.{carry-goes-past}
 

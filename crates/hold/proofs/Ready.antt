@@ -8,6 +8,7 @@ use native.Mathlib.Numerals.{add-one}
 use native.Mathlib.Omega.{arith}
 use borrow.Author.Tests.{le-leb, leb-true, leb-false}
 use Rattle.tables.proofs.Cases.{by-order, by-test, never}
+use Rattle.tables.proofs.Leading.{Leads, leading-leads, leads-only}
 use Rattle.blocks.specs.Headers.{swapOf, firstOf, countOf, announcedIn}
 use Rattle.blocks.proofs.Headers.{announced-none, announced-more, announced-upto}
 use Rattle.packets.specs.Packet.{readSize}
@@ -23,7 +24,6 @@ use Rattle.sp.proofs.ReadLists.{packets-announced, dss-stands}
 use Rattle.sp.proofs.Longer.{complete-before}
 use Rattle.hold.specs.Ready.{readingIn, endsAt, isComplete, readIn, front, ready}
 use Rattle.hold.specs.Held.{baseAt}
-use Rattle.hold.proofs.Leading.{Leads, leading-leads, leads-only}
 
 pub total-is : (dss : Bool) (f : List ℕ) (a n : ℕ) → total (readingIn dss f a n) ≡ announcedIn f a n
 total-is dss f a n = packets-announced dss f a n
@@ -91,7 +91,7 @@ module _ (f : List ℕ) (a n : ℕ) where
   ds2-leads = leading-leads (isComplete (readingIn false f a n)) (announcedIn f a n)
 
   -- where a packet's read ends
-  ds2-next : (k : ℕ) → k < announcedIn f a n
+  pub ds2-next : (k : ℕ) → k < announcedIn f a n
       → walkAt (readingIn false f a n) k .place + readSize (walkAt (readingIn false f a n) k .swap) ≡ reach (swapOf f a 0) (k + 1)
   ds2-next k h =
       let s = readingIn false f a n .stream in

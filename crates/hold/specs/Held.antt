@@ -5,10 +5,10 @@ use mathlib.Core.List.{List}
 use mathlib.Core.Bool.{Bool, false, cond}
 use lib.Dec.{leb, ltb, eqb}
 use Rattle.tables.specs.Table.{table}
+use Rattle.tables.specs.Leading.{leading}
 use Rattle.blocks.specs.Places.{streamAt}
 use Rattle.blocks.specs.Headers.{swapOf, headerByte}
 use Rattle.packets.specs.Walk.{reach}
-use Rattle.hold.specs.Leading.{leading}
 use Rattle.hold.specs.Ready.{front, ready}
 
 -- the bytes of a stream from a base on

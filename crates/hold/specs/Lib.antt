@@ -1,5 +1,4 @@
 -- The definitions of this crate, a file for each idea. They rest on those of the crates below.
-pub mod Leading
 pub mod Ready
 pub mod Held
 -- what only contracts of inner functions speak of

@@ -4,13 +4,13 @@ use Prim.Native.Nat.{ℕ, _+_, _*_}
 use mathlib.Core.List.{List}
 use mathlib.Core.Bool.{Bool, false, cond}
 use lib.Dec.{leb}
+use Rattle.tables.specs.Leading.{leading}
 use Rattle.blocks.specs.Headers.{announcedIn}
 use Rattle.packets.specs.Packet.{readSize}
 use Rattle.packets.specs.Walk.{reach}
 use Rattle.sp.specs.declared.Run.{Run}
 use Rattle.sp.specs.ReadLists.{dssRun, dssRuns, ds2Runs}
 use Rattle.sp.specs.Readings.{Reading, walkAt, readingOf}
-use Rattle.hold.specs.Leading.{leading}
 
 -- the reading of those blocks, whatever the file's magic and type are
 abbrev pub readingIn : Bool → List ℕ → ℕ → ℕ → Reading

@@ -7,4 +7,5 @@ pub mod Hosted
 pub mod Counted
 pub mod Complete
 pub mod Announced
+pub mod Fitting
 pub mod Written

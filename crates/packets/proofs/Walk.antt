@@ -5,7 +5,7 @@ use mathlib.Core.Path.{_≡_, refl, sym, ap, _∙_}
 use mathlib.Core.Bool.{Bool, true, false, not, Bool·not-not}
 use native.Mathlib.Numerals.{add-one}
 use native.Mathlib.Omega.{arith}
-use borrow.Author.Tests.{eq-eqb, ne-eqb}
+use borrow.Author.Tests.{eq-eqb, ne-eqb, not-true}
 use Rattle.tables.proofs.Cases.{by-equal}
 use Rattle.packets.specs.Packet.{readSize, carryAfter}
 use Rattle.packets.specs.Walk.{Walk, step, steps, byteOf, reach, parity}
@@ -59,17 +59,13 @@ steps-place s w zero = omega (arith, reach-none (w .swap))
 steps-place s w (suc k) =
     omega (arith, steps-place s w k, ap readSize (steps-swap s w k), reach-more (w .swap) k)
 
-unflipped : (x : Bool) → not x ≡ true → x ≡ false
-unflipped true e = sym e
-unflipped false e = refl
-
 -- what is carried to a swapped packet, with no walk: byte 40 of the read before it
 pub steps-carry : (s : ℕ → ℕ) (w : Walk) (k : ℕ) → parity (w .swap) (suc k) ≡ true
     → steps s w (suc k) .carry ≡ s (w .place + reach (w .swap) k + 40)
 unfolding steps carryAfter
 steps-carry s w k swapped =
     let before : steps s w k .swap ≡ false =
-    steps-swap s w k ∙ unflipped (parity (w .swap) k) (sym (parity-flips (w .swap) k) ∙ swapped) in
+    steps-swap s w k ∙ not-true (parity (w .swap) k) (sym (parity-flips (w .swap) k) ∙ swapped) in
     rw (before, steps-place s w k)
 
 -- a walk does not go back

@@ -8,6 +8,7 @@ use native.Mathlib.Omega.{arith}
 use borrow.Author.Tests.{leb-true, le-leb, lt-leb}
 use lib.ListN.{length}
 use Rattle.tables.proofs.Cases.{by-equal}
+use Rattle.tables.proofs.Leading.{leads-only}
 use Rattle.blocks.specs.Places.{wholeBlocks, blockAt}
 use Rattle.blocks.specs.Headers.{announcedIn}
 use Rattle.blocks.proofs.Headers.{announced-more}
@@ -16,7 +17,6 @@ use Rattle.sp.specs.ReadLists.{dssRun}
 use Rattle.hold.specs.declared.Standing.{Standing}
 use Rattle.hold.specs.Ready.{endsAt, readIn, front, ready}
 use Rattle.hold.specs.Held.{headersFrom, waitingAt}
-use Rattle.hold.proofs.Leading.{leads-only}
 use Rattle.hold.proofs.Ready.{front-leads, front-within, dss-ready}
 use Rattle.hold.proofs.Front.{few-wait}
 use Rattle.blocks.proofs.Headers.{announced-most}

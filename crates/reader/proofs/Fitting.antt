@@ -9,9 +9,9 @@ use borrow.Author.Tests.{le-leb, lt-leb, eq-eqb, ne-eqb}
 use lib.ListN.{length, length-append}
 use lib.Dec.{eqb, leb}
 use Rattle.tables.proofs.Cases.{by-order}
+use Rattle.tables.proofs.Leading.{leading-fewer}
 use Rattle.blocks.specs.Places.{wholeBlocks}
 use Rattle.hold.specs.Held.{blockFits, fitting, fits}
-use Rattle.hold.proofs.Leading.{leading-fewer}
 use Rattle.hold.proofs.Front.{each-fits}
 use Rattle.hold.proofs.Longer.{fitting-kept}
 

@@ -5,5 +5,6 @@ pub mod Entries
 pub mod Parts
 pub mod Table
 pub mod Counting
+pub mod Leading
 pub mod Tests
 pub mod Search

@@ -17,7 +17,7 @@ use Rattle.laying.proofs.Admitted.{header-is, header-if}
 use Rattle.writing.specs.declared.Written.{Written}
 use Rattle.writing.specs.Laying.{manyIn}
 use Rattle.writing.specs.Outcome.{soundIn, sizeOf, writtenSize, writtenSays, Writes}
-use Rattle.writing.specs.Writable.{AllSound, FirstUnsound, Writable, Unwritable}
+use Rattle.writing.specs.Writable.{AllSound, FirstUnsound, fileSize, Writable, Unwritable}
 use Rattle.writing.specs.Writable.Unwritable.{no-header, bad-packet, too-long, no-room}
 use Rattle.writing.proofs.Outcome.{sound-upto, sound-each, sound-most, sound-not}
 use Rattle.writing.proofs.Theorems.{accepted}
@@ -47,7 +47,7 @@ module _ (packets : List ℕ) where
       sound-upto packets k (omega (arith, f .there)) (λ j h. f .before j h .1) (λ h zero. f .unsound (omega arith, zero))
 
 module _ (header packets : List ℕ) (room : ℕ) where
-  may-say : Writable header packets room → writtenSize header packets room ≡ answers (sizeOf packets)
+  may-say : Writable header packets room → writtenSize header packets room ≡ answers (fileSize packets)
   unfolding writtenSize
   may-say m =
       simp (header-if header (m .supplied), eq-eqb _ _ (sound-all packets (m .all-sound)), le-leb (sizeOf packets) limit (m .small), le-leb (sizeOf packets) room (m .fits))
@@ -83,7 +83,7 @@ module _ (header packets : List ℕ) (room : ℕ) where
 
 module _ (header packets out out′ : List ℕ) (answer : Written) (w : Writes header packets out out′ answer) where
   -- A call is answered exactly if what it is given may be written, and then with the file's length.
-  pub answered-exactly : (Writable header packets (length out) → writtenSays answer ≡ answers (sizeOf packets))
+  pub answered-exactly : (Writable header packets (length out) → writtenSays answer ≡ answers (fileSize packets))
       × ((size : ℕ) → writtenSays answer ≡ answers size → Writable header packets (length out))
   answered-exactly = (
     λ may. w .answer-is ∙ may-say header packets (length out) may,

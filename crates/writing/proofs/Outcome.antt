@@ -8,9 +8,9 @@ use native.Mathlib.Omega.{arith}
 use borrow.Author.Tests.{eq-eqb, ne-eqb, eqb-true, le-leb, lt-leb}
 use lib.ListN.{length}
 use lib.Dec.{eqb}
-use Rattle.tables.proofs.Counting.{leading-is, leading-such, leading-most, leading-not}
 use Rattle.tables.proofs.Lent.{leaves-to, leaves-over}
 use Rattle.tables.proofs.Cases.{by-equal, never}
+use Rattle.tables.proofs.Leading.{Leads, leading-leads, leads-only}
 use Rattle.blocks.specs.Places.{limit}
 use Rattle.refusals.specs.Numbers.{numbered}
 use Rattle.refusals.specs.Said.{Said, answers, refuses}
@@ -24,30 +24,35 @@ use Rattle.writing.specs.Laying.{manyIn, byteIn, spLaid}
 use Rattle.writing.specs.Outcome.{soundIn, sizeOf, writtenSize, outAfter, writtenSays, Writes}
 use Rattle.writing.specs.Inner.{Ready}
 
+-- where packets are first not sound
+sound-leads : (packets : List ℕ) → Leads (λ k. eqb (byteIn packets k 40) 0) (manyIn packets) (soundIn packets)
+unfolding soundIn
+sound-leads packets = leading-leads (λ k. eqb (byteIn packets k 40) 0) (manyIn packets)
+
 -- the first m packets are sound, and the next is not, if there is one
 pub sound-upto : (packets : List ℕ) (m : ℕ) → m ≤ manyIn packets → ((k : ℕ) → k < m → byteIn packets k 40 ≡ 0)
     → (m < manyIn packets → byteIn packets m 40 ≡ 0 → ⊥) → soundIn packets ≡ m
-unfolding soundIn
 sound-upto packets m few all next =
-    leading-is (manyIn packets) m _ few (λ k h. eq-eqb (byteIn packets k 40) 0 (all k h)) (λ h. ne-eqb (byteIn packets m 40) 0 (next h))
+    leads-only (sound-leads packets)
+    (record {
+      within = few;
+      before = λ k h. eq-eqb (byteIn packets k 40) 0 (all k h);
+      stops = λ h. ne-eqb (byteIn packets m 40) 0 (next h);
+    })
 
 pub sound-more : (packets : List ℕ) (k : ℕ) → ((j : ℕ) → j < k → byteIn packets j 40 ≡ 0) → byteIn packets k 40 ≡ 0
     → (j : ℕ) → j < k + 1 → byteIn packets j 40 ≡ 0
 sound-more packets k all here j h = by-equal j k (λ same. rw same here) (λ other. all j (omega arith))
 
 pub sound-each : (packets : List ℕ) (k : ℕ) → k < soundIn packets → byteIn packets k 40 ≡ 0
-unfolding soundIn
-sound-each packets k h = eqb-true (byteIn packets k 40) 0 (leading-such (manyIn packets) _ k h)
+sound-each packets k h = eqb-true (byteIn packets k 40) 0 (sound-leads packets .before k h)
 
 -- they are as many as there are or fewer, and where they are fewer the next is not sound
 pub sound-most : (packets : List ℕ) → soundIn packets ≤ manyIn packets
-unfolding soundIn
-sound-most packets = leading-most (manyIn packets) _
+sound-most packets = sound-leads packets .within
 
 pub sound-not : (packets : List ℕ) → soundIn packets < manyIn packets → byteIn packets (soundIn packets) 40 ≡ 0 → ⊥
-unfolding soundIn
-sound-not packets h zero =
-    never (eq-eqb (byteIn packets (soundIn packets) 40) 0 zero) (leading-not (manyIn packets) (λ k. eqb (byteIn packets k 40) 0) h)
+sound-not packets h zero = never (eq-eqb (byteIn packets (soundIn packets) 40) 0 zero) (sound-leads packets .stops h)
 
 module _ (header packets out : List ℕ) where
   -- an outcome that is said so

@@ -87,7 +87,7 @@ module _ (header : List ℕ) (n : ℕ) (p : ℕ → ℕ → ℕ) where
       announced-is header (spLaid n p) blocks (omega arith) ∙ first-all (spLaid n p) blocks (λ k h. omega arith)
 
   -- block 0 is unswapped
-  flag-off : 0 < blocks → swapOf file 1536 0 ≡ false
+  pub flag-off : 0 < blocks → swapOf file 1536 0 ≡ false
   unfolding flagOf headByte
   flag-off some =
       ap flagOf (head-at header (spLaid n p) 0 0 some (omega arith))

@@ -37,6 +37,7 @@ use Rattle.writing.specs.declared.Written.{Written}
 use Rattle.writing.specs.declared.Written.the-variants.{Bytes, Refused}
 use Rattle.writing.specs.Laying.{manyIn, byteIn, listLaid}
 use Rattle.writing.specs.Outcome.{soundIn, sizeOf, writtenSize, outAfter, writtenSays, Writes}
+use Rattle.writing.specs.Writable.{fileSize}
 use Rattle.writing.specs.ReadBack.{ReadsBack}
 use Rattle.writing.specs.Described.{Described}
 use Rattle.writing.proofs.Outcome.{sound-each}
@@ -68,10 +69,10 @@ accepted header packets room size e =
       size-is = let same : sizeOf packets ≡ size = cc (four .1) in sym same;
     }
 
--- The longest list has 6,470,444 packets, and its file exactly as many bytes as the limit: no other list that is as long or shorter has more,
--- and every longer one has.
-pub longest-list : (packets : List ℕ) → (manyIn packets ≤ 6470444 → sizeOf packets ≤ limit) × (manyIn packets ≡ 6470444 → sizeOf packets ≡ limit)
-    × (6470444 < manyIn packets → limit < sizeOf packets)
+-- The longest list has 6,470,444 packets, and its file exactly as many bytes as the limit: no list that is as long or shorter has more, and
+-- every list of a packet more has.
+pub longest-list : (packets : List ℕ) → (length packets ≤ 42 * 6470444 → fileSize packets ≤ limit)
+    × (length packets ≡ 42 * 6470444 → fileSize packets ≡ limit) × (42 * 6470445 ≤ length packets → limit < fileSize packets)
 longest-list packets = (λ few. omega arith, λ most. omega arith, λ over. omega arith)
 
 module _ (header packets out out′ : List ℕ) (answer : Written) (w : Writes header packets out out′ answer) where

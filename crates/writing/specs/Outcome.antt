@@ -6,8 +6,8 @@ use mathlib.Core.Path.{_≡_}
 use mathlib.Core.List.{List}
 use lib.ListN.{length}
 use lib.Dec.{leb, eqb}
-use Rattle.tables.specs.Counting.{leading}
 use Rattle.tables.specs.Lent.{over}
+use Rattle.tables.specs.Leading.{leading}
 use Rattle.blocks.specs.Places.{limit}
 use Rattle.refusals.specs.Said.{Said, answers, refusal, demand}
 use Rattle.laying.specs.Header.{isHeader}
@@ -18,7 +18,7 @@ use Rattle.writing.specs.Laying.{manyIn, byteIn, listLaid}
 
 -- how many packets the list begins with that are all there and have byte 40 at 0: the number of the first that is not so
 unfoldable pub soundIn : List ℕ → ℕ
-soundIn packets = leading (manyIn packets) (λ k. eqb (byteIn packets k 40) 0)
+soundIn packets = leading (λ k. eqb (byteIn packets k 40) 0) (manyIn packets)
 
 -- how long the file of a list is
 abbrev pub sizeOf : List ℕ → ℕ

@@ -52,11 +52,12 @@ fn make_temporary(program: &str, beside: &Path) -> io::Result<(Temporary, File)>
     }
 }
 
-/// Whether a file begins as recordings do. Of a pipe it cannot be told whether it brings this one.
-fn is_recording(name: &Path) -> bool {
+/// Whether a file begins as recordings do: of a pipe it cannot be told whether it brings this one. Fails if it cannot be read.
+fn is_recording(path: &Path) -> Outcome<bool> {
     let mut first = Vec::new();
-    let read = File::open(name).and_then(|file| file.take(4).read_to_end(&mut first));
-    read.is_ok() && !matches!(tally(&first), Err(Refusal { number: Refusal::MAGIC, .. }))
+    let read = File::open(path).and_then(|file| file.take(4).read_to_end(&mut first));
+    of_system(&shown(path), read)?;
+    Ok(!matches!(tally(&first), Err(Refusal { number: Refusal::MAGIC, .. })))
 }
 
 /// What tells one file from another.
@@ -81,7 +82,7 @@ fn look_at(path: &Path, force: bool, sources: &[Source]) -> Outcome<()> {
     }
     if led_to.as_ref().map_or(false, |led_to| !led_to.is_file()) {
         failed(&name, "it is not a file")
-    } else if led_to.is_some() && is_recording(path) {
+    } else if led_to.is_some() && is_recording(path)? {
         failed(&name, "it is a recording")
     } else if !force {
         failed(&name, "it is there already; --force replaces it")

@@ -5,8 +5,8 @@ use mathlib.Core.Path.{_≡_, refl, sym, ap, _∙_}
 use mathlib.Core.Bool.{Bool, true, false}
 use native.Mathlib.Nat.{le-of-suc-le-suc, not-suc-le-zero}
 use native.Mathlib.Omega.{arith}
 use Rattle.tables.proofs.Cases.{by-order, by-test, never}
-use Rattle.hold.specs.Leading.{leading}
+use Rattle.tables.specs.Leading.{leading}
 
 -- j is where a test first fails among 0, 1, .., n - 1, or n
 pub record Leads (such : ℕ → Bool) (n j : ℕ) : Type 0 where
