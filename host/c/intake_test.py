@@ -716,8 +716,17 @@ def lost_meanwhile(trial, names, given):
         trial.hold("lost meanwhile", "" if fine else f"got {program.returncode} {out!r} {errors!r}, left {os.listdir(trial.folder)}")
 
 
+def may_run(command, **given):
+    """Whether the program can be run so at all."""
+    try:
+        return subprocess.run(command + ["--help"], stdout=subprocess.DEVNULL, stderr=subprocess.DEVNULL, **given).returncode == 0
+    except PermissionError:
+        return False
+
+
 def unreadable(trial, folders, names):
-    """A file that may not be read might be a recording, and stays. Root may read any, so there another user runs a copy of the program."""
+    """A file that may not be read might be a recording, and stays. Root may read any, so there another user runs a copy of the program; where
+    that cannot be had, as in a folder that only root may enter, it is not tried, and a line says so."""
     *rest, program = command = trial.command
     given = {}
     if os.geteuid() == 0:
@@ -726,10 +735,13 @@ def unreadable(trial, folders, names):
             os.chmod(path, 0o755)
         os.chmod(trial.folder, 0o777)
         trial.command, given = rest + [copy], {"user": NOBODY}
-    for options in ([], ["--force"]):
-        write(trial.packets, LEFT)
-        os.chmod(trial.packets, 0)
-        trial.fails("unreadable", options + names, f"{trial.packets}: Permission denied", packets=LEFT, **given)
+    if not may_run(trial.command, **given):
+        print(f"{trial.program}: not tried with a file that may not be read: no other user can run it here")
+    else:
+        for options in ([], ["--force"]):
+            write(trial.packets, LEFT)
+            os.chmod(trial.packets, 0)
+            trial.fails("unreadable", options + names, f"{trial.packets}: Permission denied", packets=LEFT, **given)
     write(trial.packets, None)
     trial.command = command
 
