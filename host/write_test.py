@@ -375,7 +375,7 @@ def main():
         closed_streams(trial)
         over_the_limit(trial)
     wrong = sum(one.wrong for one in trials.values())
-    print(f"write_test: {trial.runs} runs, {sum(one.runs for one in readers)} of the intakes beside them, {wrong} wrong")
+    print(f"write_test: {trial.runs} runs, {sum(one.runs for one in readers)} of the intakes beside them, {wrong} wrong{trial.left_out}")
     sys.exit(1 if wrong else 0)
 
 

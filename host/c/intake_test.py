@@ -480,6 +480,7 @@ class Trial:
         os.mkdir(self.folder)
         self.packets = os.path.join(self.folder, self.output)
         self.runs = self.wrong = 0
+        self.left_out = ""  # what is said behind the counts of what could not be tried here
 
     def hold(self, name, complaint):
         if complaint:
@@ -726,7 +727,7 @@ def may_run(command, **given):
 
 def unreadable(trial, folders, names):
     """A file that may not be read might be a recording, and stays. Root may read any, so there another user runs a copy of the program; where
-    that cannot be had, as in a folder that only root may enter, it is not tried, and a line says so."""
+    that cannot be had, as in a folder that only root may enter, it is not tried, and the last line says so."""
     *rest, program = command = trial.command
     given = {}
     if os.geteuid() == 0:
@@ -736,7 +737,7 @@ def unreadable(trial, folders, names):
         os.chmod(trial.folder, 0o777)
         trial.command, given = rest + [copy], {"user": NOBODY}
     if not may_run(trial.command, **given):
-        print(f"{trial.program}: not tried with a file that may not be read: no other user can run it here")
+        trial.left_out = "; not tried with a file that may not be read, as no other user can run the program here"
     else:
         for options in ([], ["--force"]):
             write(trial.packets, LEFT)
@@ -844,7 +845,7 @@ def main():
         over_the_limit(trial)
     kinds = ", ".join(f"{k} {n}" for k, n in sorted(seen.items()))
     print(f"intake_test: {damage}")
-    print(f"intake_test: {sum(seen.values())} recordings ({kinds}), {trial.runs} runs, {trial.wrong} wrong")
+    print(f"intake_test: {sum(seen.values())} recordings ({kinds}), {trial.runs} runs, {trial.wrong} wrong{trial.left_out}")
     sys.exit(1 if trial.wrong else 0)
 
 
