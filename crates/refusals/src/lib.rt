@@ -11,172 +11,129 @@ pub struct Refusal {
 }
 
 impl Refusal {
+    // By a number, with the number beside it.
+    fn by(number: u64, beside: u64) -> Self
+        ensures { λ r. ⌜ r ≡ numbered number beside ⌝ }
+    {
+        Self { number, beside }
+    }
+
     // Under 4 bytes, or not a magic that the call takes.
     pub fn magic() -> Self
         ensures { λ r. ⌜ r ≡ numbered 1 0 ⌝ }
     {
-        Self {
-            number: 1,
-            beside: 0,
-        }
+        Self::by(1, 0)
     }
 
     // The input is over this limit.
     pub fn limit(limit: usize) -> Self
         ensures { λ r. ⌜ r ≡ numbered 2 limit ⌝ }
     {
-        Self {
-            number: 2,
-            beside: limit as u64,
-        }
+        Self::by(2, limit as u64)
     }
 
     // The header, which reaches to the audio start, is cut.
     pub fn header(start: FilePlace) -> Self
         ensures { λ r. ⌜ r ≡ numbered 3 (start .0) ⌝ }
     {
-        Self {
-            number: 3,
-            beside: start.0 as u64,
-        }
+        Self::by(3, start.0 as u64)
     }
 
     // A record cannot be told: fewer than 2 bytes are left at this place of the stream.
     pub fn selector(at: StreamPlace) -> Self
         ensures { λ r. ⌜ r ≡ numbered 4 (at .0) ⌝ }
     {
-        Self {
-            number: 4,
-            beside: at.0 as u64,
-        }
+        Self::by(4, at.0 as u64)
     }
 
     // The record at this place runs past the stream.
     pub fn record(at: StreamPlace) -> Self
         ensures { λ r. ⌜ r ≡ numbered 5 (at .0) ⌝ }
     {
-        Self {
-            number: 5,
-            beside: at.0 as u64,
-        }
+        Self::by(5, at.0 as u64)
     }
 
     // A piece or a strict end comes while the reader drains, or a piece after its end.
     pub fn ended() -> Self
         ensures { λ r. ⌜ r ≡ numbered 6 0 ⌝ }
     {
-        Self {
-            number: 6,
-            beside: 0,
-        }
+        Self::by(6, 0)
     }
 
     // What is unread would not fit in a hold of so many bytes.
     pub fn overflow(hold: usize) -> Self
         ensures { λ r. ⌜ r ≡ numbered 7 hold ⌝ }
     {
-        Self {
-            number: 7,
-            beside: hold as u64,
-        }
+        Self::by(7, hold as u64)
     }
 
     // The packets, records or bytes are so many, and there is room for fewer.
     pub fn room(needed: usize) -> Self
         ensures { λ r. ⌜ r ≡ numbered 8 needed ⌝ }
     {
-        Self {
-            number: 8,
-            beside: needed as u64,
-        }
+        Self::by(8, needed as u64)
     }
 
     // The segments are so many, and the table has room for fewer.
     pub fn segments(needed: usize) -> Self
         ensures { λ r. ⌜ r ≡ numbered 9 needed ⌝ }
     {
-        Self {
-            number: 9,
-            beside: needed as u64,
-        }
+        Self::by(9, needed as u64)
     }
 
     // A reader is opened with a kind that there is not.
     pub fn kind(kind: u64) -> Self
         ensures { λ r. ⌜ r ≡ numbered 10 kind ⌝ }
     {
-        Self {
-            number: 10,
-            beside: kind,
-        }
+        Self::by(10, kind)
     }
 
     // A DS2 file of this type is read as another kind than the call's.
     pub fn other_kind(byte: u8) -> Self
         ensures { λ r. ⌜ r ≡ numbered 11 byte ⌝ }
     {
-        Self {
-            number: 11,
-            beside: byte as u64,
-        }
+        Self::by(11, byte as u64)
     }
 
     // There is no such whole block; or a frame's size is none, it runs past the stream, or the scratch is too small.
     pub fn absent() -> Self
         ensures { λ r. ⌜ r ≡ numbered 12 0 ⌝ }
     {
-        Self {
-            number: 12,
-            beside: 0,
-        }
+        Self::by(12, 0)
     }
+
     // The end comes inside a block, of which so many bytes are there.
     pub fn inside(bytes: usize) -> Self
         ensures { λ r. ⌜ r ≡ numbered 13 bytes ⌝ }
     {
-        Self {
-            number: 13,
-            beside: bytes as u64,
-        }
+        Self::by(13, bytes as u64)
     }
 
     // So many frames are owed at the end.
     pub fn owed(frames: usize) -> Self
         ensures { λ r. ⌜ r ≡ numbered 14 frames ⌝ }
     {
-        Self {
-            number: 14,
-            beside: frames as u64,
-        }
+        Self::by(14, frames as u64)
     }
 
     // The header that was supplied has not its size, or begins otherwise.
     pub fn supplied() -> Self
         ensures { λ r. ⌜ r ≡ numbered 15 0 ⌝ }
     {
-        Self {
-            number: 15,
-            beside: 0,
-        }
+        Self::by(15, 0)
     }
 
     // The packet of this number is cut short, or its byte 40 is not 0.
     pub fn packet(number: usize) -> Self
         ensures { λ r. ⌜ r ≡ numbered 16 number ⌝ }
     {
-        Self {
-            number: 16,
-            beside: number as u64,
-        }
+        Self::by(16, number as u64)
     }
 
     // The file would be over this limit.
     pub fn too_long(limit: usize) -> Self
         ensures { λ r. ⌜ r ≡ numbered 17 limit ⌝ }
     {
-        Self {
-            number: 17,
-            beside: limit as u64,
-        }
+        Self::by(17, limit as u64)
     }
 }
