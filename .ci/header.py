@@ -19,6 +19,7 @@ CONSTANTS = {"LIMIT": "blocks::LIMIT", "PACKET": "packets::PACKET", "FRAME": "fr
 IN_HEADER = ("LIMIT", "PACKET", "FRAME", "BLOCK", "PAYLOAD", "QP_WORDS", "QP7_WORDS")
 IN_RUST = ("LIMIT", "PACKET", "FRAME", "PAYLOAD", "BLOCK", "QP_WORDS", "QP7_WORDS")
 BESIDE = {2: "LIMIT", 7: "HOLD", 17: "LIMIT"}  # refusals whose number beside is a constant
+IN_SENTENCE = {4: ("beside", "absent"), 5: ("size", "beside", "absent")}  # the numbers in a refusal's sentence, where it has more than the one beside
 LISTS = ("crates/klovdrun/specs/Refusals.antt", "crates/tally/specs/Tallies.antt")  # where the exports' lists of refusals are defined
 wrong = []
 
@@ -204,11 +205,12 @@ def number_of(source, pattern):
 
 def check_names(header, source):
     """The header's enums have the numbers of the definitions, and the Rust crate has a name and a sentence for each refusal, and for no other:
-    the header's own, with the number beside in its place."""
+    the header's own, with the numbers in their places."""
     named = {name: int(number) for name, number in re.findall(r"\bKLOV_REFUSED_(\w+) = (\d+)", header)}
     compare("enum of refusals", known(), sorted(named.values()))
     compare("Rust names", sorted(named.items()), sorted((name, int(number)) for name, number in re.findall(r"pub const (\w+): u64 = (\d+);", source)))
-    texts = [line.replace("%llu", "{beside}") for line in re.findall(r'^ {8}"(.*)",$', header, re.M)]
+    texts = [line.replace("%llu", "{}").format(*("{%s}" % name for name in IN_SENTENCE.get(number, ("beside",))))
+             for number, line in enumerate(re.findall(r'^ {8}"(.*)",$', header, re.M))]
     said = dict(re.findall(r'Refusal::(\w+) => write!\(to, "(.*)"\),', source))
     compare("Rust texts", [(name, texts[number] if number < len(texts) else "") for name, number in named.items()], list(said.items()))
     numbers = text("crates/numbers/specs/Numbers.antt")

@@ -12,7 +12,8 @@ import time
 
 MOST = 65536
 NAMES = ["DSSSP", "DS2SP", "DS2QP", "DS2QP7"]
-TALLY = slice(58, 67)  # the tally among a case's answers
+TALLY = slice(60, 71)  # the tally among a case's answers
+OF_RECORD = (4, 5)  # refusals of a record, whose size and absent bytes the line has too
 
 
 def made(numbers: list) -> bytes:
@@ -38,7 +39,8 @@ def cases(path: str):
     for _title, file, _asked, answers in groups:
         numbers = [int(n) for n in re.findall(r"\d+", file)]
         tally = [int(n) for n in re.findall(r"\d+", answers)][TALLY]
-        line = f"refused {tally[0]} {tally[1]}" if tally[0] else " ".join([NAMES[tally[2]]] + [str(n) for n in tally[3:]])
+        told = tally[:2] + (tally[9:] if tally[0] in OF_RECORD else [])
+        line = " ".join(map(str, ["refused", *told] if tally[0] else [NAMES[tally[2]], *tally[3:9]]))
         content = made(numbers[1:])
         yield numbers[0], content, f"refused 2 {MOST}" if len(content) > MOST else line
 

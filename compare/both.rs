@@ -1,6 +1,6 @@
 // A file as the original reads it, where it can be asked, and as the model does: asked once, for all comparisons of that file. It rests on
 // the original, and on the model for the lengths at which the original faults.
-use crate::common::model::{self, Answer, Kind};
+use crate::common::model::{self, refused, Answer, Kind, Refused};
 use original::{DemuxedDs2, Told};
 
 pub struct Both<'a> {
@@ -21,7 +21,7 @@ impl<'a> Both<'a> {
         // DSS faults below A, DS2 at A too.
         let faults = match kind {
             Ok((_, start)) => !dss && file.len() == start,
-            Err((number, _)) => number != 1,
+            Err(refusal) => refusal[0] != 1,
         };
         let (ask_dss, ask_ds2) = (!(faults && dss), !(faults && !dss));
         Both {
@@ -36,16 +36,16 @@ impl<'a> Both<'a> {
     /// How a call for DSS, or one for DS2, sees the file.
     pub fn kind_for(&self, dss: bool) -> Answer<(Kind, usize)> {
         match self.kind {
-            Ok((Kind::DssSp, _)) if !dss => Err((1, 0)),
-            Ok((Kind::Ds2Sp | Kind::Qp | Kind::Qp7, _)) if dss => Err((1, 0)),
+            Ok((Kind::DssSp, _)) if !dss => Err(refused(1, 0)),
+            Ok((Kind::Ds2Sp | Kind::Qp | Kind::Qp7, _)) if dss => Err(refused(1, 0)),
             Err(_) => model::kind_for(self.file, dss),
             kind => kind,
         }
     }
 
     /// The type of a DS2 file, as refusal 11 has it beside it.
-    pub fn wrong_kind(&self, start: usize) -> (u64, u64) {
-        (11, u64::from(model::ds2_type(self.file, start)))
+    pub fn wrong_kind(&self, start: usize) -> Refused {
+        refused(11, u64::from(model::ds2_type(self.file, start)))
     }
 }
 

@@ -37,10 +37,10 @@ fn qp(file: &[u8], rows: &[model::Segment], theirs: &[Vec<u8>], dice: &mut Dice,
             let seen = ours::frame(start, length, k);
             let (place, size) = model::frame(start, length, k);
             if size == 0 {
-                score.named(Name::MissingFrames, "frame", [0; 4], seen);
+                score.named(Name::MissingFrames, "frame", ours::answered(0, 0), seen);
                 continue;
             }
-            score.model("frame", [0, 0, place, size], seen);
+            score.model("frame", ours::answered(place, size), seen);
             let frame = list.next();
             score.original("frame", frame.map(Vec::len), Some(seen[3] as usize));
             if theirs.len() <= MOST || dice.below(theirs.len()) < MOST {
@@ -80,16 +80,16 @@ fn part(file: &[u8], place: usize, size: usize, theirs: Option<&Vec<u8>>, dice: 
 /// The bytes that an answer points at.
 fn bytes<'a>(file: &'a [u8], size: usize, answer: Numbers, scratch: &'a [u8]) -> Option<&'a [u8]> {
     match answer {
-        [0, 0, 0, place] => file.get(place as usize..(place as usize).saturating_add(size)),
-        [0, 0, 1, 0] => scratch.get(..size),
+        [0, 0, 0, place, 0, 0] => file.get(place as usize..(place as usize).saturating_add(size)),
+        [0, 0, 1, 0, 0, 0] => scratch.get(..size),
         _ => None,
     }
 }
 
 fn stand(expected: model::Answer<Option<usize>>) -> Numbers {
     match expected {
-        Ok(Some(place)) => [0, 0, 0, place as u64],
-        Ok(None) => [0, 0, 1, 0],
+        Ok(Some(place)) => ours::answered(0, place as u64),
+        Ok(None) => ours::answered(1, 0),
         Err(refusal) => ours::refused(refusal),
     }
 }
@@ -116,7 +116,7 @@ fn any_part(both: &Both, dice: &mut Dice, score: &mut Score) {
     };
     let seen = (fetched, scratch.holds(&used));
     match expected {
-        Err((2, _)) => score.named(Name::Limit, "fetch", (stand(expected), true), seen),
+        Err([2, ..]) => score.named(Name::Limit, "fetch", (stand(expected), true), seen),
         _ => score.model("fetch", (stand(expected), true), seen),
     }
     score.model("show", stand(expected), shown);
@@ -132,5 +132,5 @@ fn any_frame(dice: &mut Dice, score: &mut Score) {
     };
     let (start, length, k) = (number(dice), number(dice), number(dice) / 56);
     let (place, size) = model::frame(start, length, k);
-    score.model("frame", [0, 0, place, size], ours::frame(start, length, k));
+    score.model("frame", ours::answered(place, size), ours::frame(start, length, k));
 }

@@ -1,5 +1,6 @@
 // The Rust crate in host/ beside the original: every result of the calls that both have, through the crate's own names and signatures. It
-// rests on the crate as a host links it; where the two differ by design nothing is asked here, since the archive's calls are held there.
+// rests on the crate as a host links it; where the two differ by design nothing is asked here, since the archive's calls are held there. How much
+// of a record is missing, which the original does not tell, is held to the model.
 use crate::common::files::{self, Dice};
 use crate::common::model::{self, Kind};
 use crate::differences::Name;
@@ -8,8 +9,20 @@ use klovdrun::demux as port;
 use klovdrun::Refusal;
 use original::{Stream, Told};
 
+/// In the original's numbers: it tells the place of a record that cannot be read. Of any other refusal it tells no more than which it is, and
+/// then nothing is said to be missing.
 fn told<T>(answer: Result<T, Refusal>) -> Told<T> {
-    answer.map_err(|refusal| (refusal.number, if matches!(refusal.number, 4 | 5) { refusal.beside } else { 0 }))
+    answer.map_err(|Refusal { number, beside, size, absent }| match number {
+        4 | 5 => (number, beside),
+        _ => (number, size | absent),
+    })
+}
+
+/// A refusal of a record, where there is one: all its numbers beside the model's.
+fn missing<T>(call: &'static str, file: &[u8], answer: &Result<T, Refusal>, score: &mut Score) {
+    if let Err(Refusal { number: number @ (4 | 5), beside, size, absent }) = *answer {
+        score.model(call, model::tally(file).err(), Some([number, beside, size, absent]));
+    }
 }
 
 /// A DS2 file in a form that both have: packets, or segments' bytes and records, with frames, resets and the total.
@@ -63,9 +76,17 @@ fn whole(file: &[u8], score: &mut Score) {
     let start = original::detect_ds2_audio_start(file);
     if !matches!(magic, Some(b"\x01ds2" | b"\x03ds2" | b"\x07ds2")) || file.len() > start {
         let one: Told<Ds2> = original::demux_ds2(file).map(|demuxed| plain!(original::DemuxedDs2, demuxed));
-        let other: Told<Ds2> = told(port::ds2::demux_ds2(file)).map(|demuxed| plain!(port::ds2::DemuxedDs2, demuxed));
+        let other = port::ds2::demux_ds2(file);
+        missing("crate: demux_ds2", file, &other, score);
+        let other: Told<Ds2> = told(other).map(|demuxed| plain!(port::ds2::DemuxedDs2, demuxed));
         score.original("crate: demux_ds2", one, other);
     }
+}
+
+/// What either demuxer answers at its end.
+fn ended(call: &'static str, file: &[u8], theirs: Told<Vec<Vec<u8>>>, ours: Result<Vec<Vec<u8>>, Refusal>, score: &mut Score) {
+    missing(call, file, &ours, score);
+    score.original(call, theirs, told(ours));
 }
 
 /// Gives both demuxers the same pieces, and then the strict or the lenient end.
@@ -83,10 +104,9 @@ macro_rules! fed {
             $score.original(concat!("crate: ", $name, "::push"), one.push(piece), answer);
         }
         if !full && lenient {
-            let answer = one.finish_lenient();
-            $score.original(concat!("crate: ", $name, "::finish_lenient"), answer, told(other.finish_lenient()));
+            ended(concat!("crate: ", $name, "::finish_lenient"), $file, one.finish_lenient(), other.finish_lenient(), $score);
         } else if !full {
-            $score.original(concat!("crate: ", $name, "::finish"), one.finish(), told(other.finish()));
+            ended(concat!("crate: ", $name, "::finish"), $file, one.finish(), other.finish(), $score);
         }
     }};
 }
@@ -104,7 +124,7 @@ fn in_pieces(file: &[u8], dice: &mut Dice, score: &mut Score) {
         _ => {}
     }
     // For an SP file the original answers no frames and the crate refuses; at or below the audio start the original faults.
-    if let Ok((Kind::Qp | Kind::Qp7, _)) | Err((1, _)) = model::kind(file) {
+    if let Ok((Kind::Qp | Kind::Qp7, _)) | Err([1, ..]) = model::kind(file) {
         fed!("Ds2QpStreamDemuxer", file, dice, score, Stream::qp(), port::ds2::Ds2QpStreamDemuxer::new());
     }
 }

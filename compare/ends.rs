@@ -1,8 +1,9 @@
 // The ends of a reading in pieces: strict and lenient, beside the original's, the lenient one also in parts; a reader that drains, one that
 // has ended, and one that was never opened. Where the original has no such state, the answers are those of docs/FORMAT.md.
 use crate::common::files::Dice;
+use crate::common::model::refused;
 use crate::differences::Name;
-use crate::ours::{Numbers, Reader};
+use crate::ours::{answered, owing, Numbers, Reader};
 use crate::pieces::{asked, in_header, Run, Seen};
 use crate::score::Score;
 use crate::whole_sp::ample;
@@ -29,9 +30,9 @@ fn strict_numbers(run: &Run) -> Numbers {
     let (cut, owed) = (run.given.saturating_sub(run.start) % 512, run.owed() as u64);
     match cut as u64 {
         _ if inside_header(run) => in_header(run.start),
-        0 if owed == 0 => [0; 4],
-        0 => [14, owed, 0, owed],
-        cut => [13, cut, 0, owed],
+        0 if owed == 0 => answered(0, 0),
+        0 => owing(refused(14, owed), owed),
+        cut => owing(refused(13, cut), owed),
     }
 }
 
@@ -45,7 +46,7 @@ pub fn strict(run: &mut Run, dice: &mut Dice, score: &mut Score) {
         let theirs = theirs.finish().map_or_else(|(number, _)| (number, 0), |packets| (0, packets.len() as u64));
         score.original(CALL, theirs, (numbers[0], numbers[2]));
     }
-    if expected == [0; 4] {
+    if expected == answered(0, 0) {
         score.model(CALL, expected, numbers);
         if dice.percent(5) {
             ended(&mut copy, dice, score);
@@ -80,7 +81,7 @@ fn lenient(run: &mut Run, dice: &mut Dice, score: &mut Score) {
         let same = run.reader.bytes() == before.bytes();
         score.named(Name::EndInHeader, CALL, (in_header(run.start), true, true), (seen.numbers, seen.untouched(), same));
     } else {
-        run.hold(CALL, [0, 0, owed as u64, 0], from..from + owed, &seen, score);
+        run.hold(CALL, answered(owed as u64, 0), from..from + owed, &seen, score);
         run.gather(seen);
     }
 }
@@ -96,7 +97,7 @@ fn drain(run: &mut Run, dice: &mut Dice, score: &mut Score) {
         let (out, counts) = dice.pick(&[(most, most), (most, most + 3), (most + 2, most)]);
         let to = end.min(at + most);
         let seen = Seen::of((42 * out + dice.pick(&[0, 41]), counts), |out, counts| run.reader.lenient_end(out, counts));
-        let numbers = [0, 0, (to - at) as u64, (end - to) as u64];
+        let numbers = answered((to - at) as u64, (end - to) as u64);
         if to < end {
             let bytes = seen.out.holds(&run.expected.bytes[42 * at..42 * to]);
             let counts = seen.counts.holds(&run.expected.counts[at..to]);
@@ -115,27 +116,29 @@ fn drain(run: &mut Run, dice: &mut Dice, score: &mut Score) {
     }
     // The first lenient end where nothing was owed, and one more where something was.
     let numbers = run.reader.lenient_end(&mut [], &mut []);
-    score.model(CALL, [0; 4], numbers);
+    score.model(CALL, answered(0, 0), numbers);
 }
 
 /// A reader that drains takes no piece and no strict end, and says what it owes.
 fn draining(reader: &mut Reader, owed: u64, score: &mut Score) {
-    asked(reader, [6, 0, 0, owed], Name::DrainInParts, score);
+    let refusal = owing(refused(6, 0), owed);
+    asked(reader, refusal, Name::DrainInParts, score);
     let before = reader.clone();
     let numbers = reader.strict_end();
-    score.named(Name::DrainInParts, "strict_end", ([6, 0, 0, owed], true), (numbers, reader.bytes() == before.bytes()));
+    score.named(Name::DrainInParts, "strict_end", (refusal, true), (numbers, reader.bytes() == before.bytes()));
 }
 
 /// A reader that has ended takes no piece, and either end answers 0 packets.
 fn ended(reader: &mut Reader, dice: &mut Dice, score: &mut Score) {
-    asked(reader, [6, 0, 0, 0], Name::AfterTheEnd, score);
+    let refusal = owing(refused(6, 0), 0);
+    asked(reader, refusal, Name::AfterTheEnd, score);
     let (piece, before) = (vec![0x0F; dice.below(600)], reader.clone());
     let seen = Seen::of(ample(2, dice), |out, counts| reader.piece(&piece, out, counts));
     let same = reader.bytes() == before.bytes();
-    score.named(Name::AfterTheEnd, "piece", ([6, 0, 0, 0], true, true), (seen.numbers, seen.untouched(), same));
-    score.named(Name::AfterTheEnd, "strict_end", [0; 4], reader.strict_end());
+    score.named(Name::AfterTheEnd, "piece", (refusal, true, true), (seen.numbers, seen.untouched(), same));
+    score.named(Name::AfterTheEnd, "strict_end", answered(0, 0), reader.strict_end());
     let seen = Seen::of(ample(2, dice), |out, counts| reader.lenient_end(out, counts));
-    score.named(Name::AfterTheEnd, "lenient_end", ([0; 4], true), (seen.numbers, seen.untouched()));
+    score.named(Name::AfterTheEnd, "lenient_end", (answered(0, 0), true), (seen.numbers, seen.untouched()));
 }
 
 /// A kind that there is not: refused by 10, and the reader given is an ended one.
@@ -146,6 +149,6 @@ pub fn no_such_kind(dice: &mut Dice, score: &mut Score) {
         _ => dice.roll() | 4,
     };
     let (numbers, mut reader) = Reader::open(kind);
-    score.named(Name::NoSuchKind, "open", [10, kind, 0, 0], numbers);
+    score.named(Name::NoSuchKind, "open", owing(refused(10, kind), 0), numbers);
     ended(&mut reader, dice, score);
 }

@@ -2,8 +2,9 @@
 // rooms by the byte, sizes one short, pieces of one byte, blocks that wait, a full hold. It rests on the comparisons of a whole file and of its pieces.
 use crate::both::Both;
 use crate::common::files::{self, file, Dice};
+use crate::common::model::refused;
 use crate::lent::Lent;
-use crate::ours;
+use crate::ours::{self, answered, Numbers};
 use crate::score::Score;
 use crate::{ends, pieces, tables, whole, whole_sp, written};
 use klovdrun::{QP7_WORDS, QP_WORDS};
@@ -26,7 +27,7 @@ fn every(name: &str, file: &[u8], score: &mut Score) {
 }
 
 /// The numbers of a whole SP call, and the packets and counts that it wrote.
-fn sp(file: &[u8], dss: bool) -> ([u64; 4], Vec<u8>, Vec<u8>) {
+fn sp(file: &[u8], dss: bool) -> (Numbers, Vec<u8>, Vec<u8>) {
     let (mut out, mut counts) = (Lent::<u8>::new(42 * 300), Lent::<u8>::new(300));
     let call = if dss { ours::demux_dss } else { ours::demux_ds2_sp };
     let numbers = call(file, out.part(), counts.part());
@@ -35,7 +36,7 @@ fn sp(file: &[u8], dss: bool) -> ([u64; 4], Vec<u8>, Vec<u8>) {
 }
 
 /// The numbers of a QP or QP7 call, and the words of segments that it wrote.
-fn segments(file: &[u8], qp7: bool) -> ([u64; 4], Vec<u32>) {
+fn segments(file: &[u8], qp7: bool) -> (Numbers, Vec<u32>) {
     let (mut table, mut records) = (Lent::<u32>::new(99), Lent::<u32>::new(999));
     if qp7 {
         let numbers = ours::demux_ds2_qp7(file, records.part(), table.part());
@@ -67,9 +68,9 @@ fn headers(score: &mut Score) {
     for (name, magic, start) in [("example 1", b"\x01ds2", 1536), ("example 3", b"\x07ds2", 4096)] {
         let file = file(magic, start, &[], |_| 0);
         every(name, &file, score);
-        score.model(CALL, [0; 4], sp(&file, false).0);
+        score.model(CALL, answered(0, 0), sp(&file, false).0);
         every(name, &file[..start - 1], score);
-        score.model(CALL, [3, start as u64, 0, 0], sp(&file[..start - 1], false).0);
+        score.model(CALL, ours::refused(refused(3, start as u64)), sp(&file[..start - 1], false).0);
     }
 }
 
@@ -78,17 +79,18 @@ fn qp_examples(score: &mut Score) {
     let head = |first, count| [0x0F, first, count, 0xFF, 6, 0xFF];
     let one = file(b"\x01ds2", 1536, &[head(3, 10), head(30, 2)], |place| place as u8);
     every("example 2, one segment", &one, score);
-    score.model(CALL, ([0, 0, 1, 12], vec![0, 672, 12, 0]), segments(&one, false));
+    score.model(CALL, (answered(1, 12), vec![0, 672, 12, 0]), segments(&one, false));
     let two = file(b"\x01ds2", 1536, &[head(3, 9), head(3, 4)], |place| place as u8);
     every("example 2, two segments", &two, score);
-    score.model(CALL, ([0, 0, 2, 13], vec![0, 504, 9, 0, 506, 224, 4, 1]), segments(&two, false));
+    score.model(CALL, (answered(2, 13), vec![0, 504, 9, 0, 506, 224, 4, 1]), segments(&two, false));
     let silent = file(b"\x01ds2", 1536, &[head(3, 9), head(3, 0)], |place| place as u8);
     every("example 2, a silent block", &silent, score);
-    score.model(CALL, ([0, 0, 1, 9], vec![0, 504, 9, 0]), segments(&silent, false));
-    for (first, refusal) in [(3, [5, 504, 0, 0]), (4, [4, 506, 0, 0])] {
+    score.model(CALL, (answered(1, 9), vec![0, 504, 9, 0]), segments(&silent, false));
+    for (first, refusal) in [(3, [5, 504, 56, 54]), (4, [4, 506, 0, 2])] {
         let file = file(b"\x01ds2", 1536, &[[0x0F, first, 10, 0xFF, 7, 0xFF]], |_| 0xFF);
         every("example 5", &file, score);
-        score.model(CALL, (refusal, Vec::new()), segments(&file, true));
+        score.model(CALL, (ours::refused(refusal), Vec::new()), segments(&file, true));
+        score.model(CALL, ours::tally_refused(refusal), ours::tally(&file));
     }
 }
 
@@ -123,7 +125,7 @@ fn sp_examples(score: &mut Score) {
 fn listing(score: &mut Score) {
     let file = file(b"\x01ds2", 1536, &[[0x0F, 3, 12, 0xFF, 6, 0xFF]], |_| 0);
     every("the listing's file", &file, score);
-    score.model(CALL, [0, 0, 2, 1536, 1, 12, 10, 1, 506], ours::tally(&file));
+    score.model(CALL, ours::tallied([2, 1536, 1, 12, 10, 1, 506]), ours::tally(&file));
 }
 
 /// Counts of 255, in blocks of each kind and both parities; files that end one byte before a size, at it, and one byte after it.

@@ -3,8 +3,9 @@
 // of a whole file, of pieces and of ends.
 use crate::both::Both;
 use crate::common::files::{self, Dice};
-use crate::common::model::LIMIT;
+use crate::common::model::{refused, LIMIT};
 use crate::differences::Name;
+use crate::ours;
 use crate::pieces::Run;
 use crate::score::Score;
 use crate::{ends, whole};
@@ -56,7 +57,7 @@ fn one_piece(file: &[u8], dice: &mut Dice, score: &mut Score) {
     score.file(format_args!("a piece of {} bytes", file.len()));
     let mut run = Run::new(&file[..LIMIT], 2, score);
     run.theirs = None;
-    run.refuse(Name::Limit, [2, LIMIT as u64, 0, 0], file, (0, 0), score);
+    run.refuse(Name::Limit, ours::owing(refused(2, LIMIT as u64), 0), file, (0, 0), score);
     run.give(&file[..LIMIT], dice, score);
     ends::all(&mut run, dice, score);
     eprintln!("  DSS in one piece, without the original: {:.1} s", begun.elapsed().as_secs_f64());
@@ -71,7 +72,7 @@ fn in_pieces(number: u64, file: &[u8], dice: &mut Dice, score: &mut Score) {
         run.give(piece, dice, score);
     }
     let owed = run.owed() as u64;
-    run.refuse(Name::Limit, [2, LIMIT as u64, 0, owed], &[0], (84, 2), score);
+    run.refuse(Name::Limit, ours::owing(refused(2, LIMIT as u64), owed), &[0], (84, 2), score);
     let (packets, theirs) = (run.handed(), run.theirs.is_some());
     ends::all(&mut run, dice, score);
     let (with, seconds) = (if theirs { "beside" } else { "without" }, begun.elapsed().as_secs_f64());

@@ -2,7 +2,7 @@
 // original's own readings imply.
 use crate::both::Both;
 use crate::common::files::Dice;
-use crate::common::model;
+use crate::common::model::{self, refused, Refused};
 use crate::differences::Name;
 use crate::ours;
 use crate::score::Score;
@@ -14,8 +14,8 @@ pub fn compare(both: &Both, dice: &mut Dice, score: &mut Score) {
 }
 
 /// Which difference a refusal of a call for both sorts of files is a case of.
-fn name(both: &Both, refusal: (u64, u64)) -> Option<Name> {
-    match refusal.0 {
+fn name(both: &Both, refusal: Refused) -> Option<Name> {
+    match refusal[0] {
         2 => Some(Name::Limit),
         3 if both.file.get(3) == Some(&b's') => Some(Name::DssCutHeader),
         3 => Some(Name::Ds2CutHeader),
@@ -28,8 +28,8 @@ fn payload(both: &Both, dice: &mut Dice, score: &mut Score) {
     for block in [0, dice.below(blocks + 1), blocks.saturating_sub(1), blocks, usize::MAX - dice.below(9), 1 << 55] {
         let seen = ours::payload(both.file, block);
         match both.kind {
-            Ok((_, start)) if block < blocks => score.model("payload", [0, 0, (start + 512 * block + 6) as u64, 0], seen),
-            Ok(_) => score.model("payload", [12, 0, 0, 0], seen),
+            Ok((_, start)) if block < blocks => score.model("payload", ours::answered((start + 512 * block + 6) as u64, 0), seen),
+            Ok(_) => score.model("payload", ours::refused(refused(12, 0)), seen),
             Err(refusal) => match name(both, refusal) {
                 Some(name) => score.named(name, "payload", ours::refused(refusal), seen),
                 None => score.model("payload", ours::refused(refusal), seen),
@@ -41,12 +41,8 @@ fn payload(both: &Both, dice: &mut Dice, score: &mut Score) {
 fn tally(both: &Both, score: &mut Score) {
     let seen = ours::tally(both.file);
     let expected = model::tally(both.file);
-    let refusal = expected.err().unwrap_or((0, 0));
-    let mut numbers = [refusal.0, refusal.1, 0, 0, 0, 0, 0, 0, 0];
-    if let Ok(told) = expected {
-        numbers[2..].copy_from_slice(&told);
-    }
-    match name(both, refusal) {
+    let numbers = expected.map_or_else(ours::tally_refused, ours::tallied);
+    match expected.err().and_then(|refusal| name(both, refusal)) {
         Some(name) => score.named(name, "tally", numbers, seen),
         None => score.model("tally", numbers, seen),
     }

@@ -1,18 +1,42 @@
 // The archive's calls over slices, each answer with all its numbers, those of a refused call too. It rests on the declarations in
 // host/src/raw.rs; all unsafe code of the program is here. A slice is never null, and two of which one is written share no byte.
+use crate::common::model::Refused;
 use crate::raw;
 use std::mem::size_of;
 
-/// Refusal, the number beside it, first, second.
-pub type Numbers = [u64; 4];
+/// Refusal, the number beside it, first, second, the size of a record that cannot be read, how many bytes are absent.
+pub type Numbers = [u64; 6];
+/// Refusal, the number beside it, kind, start, blocks, announced, handed out, short, bytes, size, absent.
+pub type Tally = [u64; 11];
 
 fn numbers(answer: raw::Answer) -> Numbers {
-    [answer.refusal, answer.beside, answer.first, answer.second]
+    let raw::Answer { refusal, beside, first, second, size, absent } = answer;
+    [refusal, beside, first, second, size, absent]
+}
+
+/// What a call answers that is not refused.
+pub fn answered(first: u64, second: u64) -> Numbers {
+    [0, 0, first, second, 0, 0]
 }
 
 /// What a refused call answers, when nothing else is told with it.
-pub fn refused((number, beside): (u64, u64)) -> Numbers {
-    [number, beside, 0, 0]
+pub fn refused(refusal: Refused) -> Numbers {
+    owing(refusal, 0)
+}
+
+/// The same of a reader's call, which tells the frames owed too.
+pub fn owing([number, beside, size, absent]: Refused, owed: u64) -> Numbers {
+    [number, beside, 0, owed, size, absent]
+}
+
+/// The tally of a file that is not refused.
+pub fn tallied([kind, start, blocks, announced, handed, short, bytes]: [u64; 7]) -> Tally {
+    [0, 0, kind, start, blocks, announced, handed, short, bytes, 0, 0]
+}
+
+/// The tally of one that is.
+pub fn tally_refused([number, beside, size, absent]: Refused) -> Tally {
+    [number, beside, 0, 0, 0, 0, 0, 0, 0, size, absent]
 }
 
 pub fn detect_format(file: &[u8]) -> u8 {
@@ -77,11 +101,10 @@ pub fn show(file: &[u8], place: usize, size: usize, scratch: &[u8]) -> Numbers {
     numbers(unsafe { raw::klov_show(file.as_ptr(), file.len(), place, size, scratch.as_ptr(), scratch.len()) })
 }
 
-/// Refusal, the number beside it, kind, start, blocks, announced, handed out, short, bytes.
-pub fn tally(file: &[u8]) -> [u64; 9] {
+pub fn tally(file: &[u8]) -> Tally {
     let told = unsafe { raw::klov_tally(file.as_ptr(), file.len()) };
-    let raw::Tallied { refusal, beside, kind, start, blocks, announced, handed, short_count, bytes } = told;
-    [refusal, beside, kind, start, blocks, announced, handed, short_count, bytes]
+    let raw::Tallied { refusal, beside, kind, start, blocks, announced, handed, short_count, bytes, size, absent } = told;
+    [refusal, beside, kind, start, blocks, announced, handed, short_count, bytes, size, absent]
 }
 
 /// A reader where it stands.

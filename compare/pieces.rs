@@ -2,7 +2,7 @@
 // owed, refusals, and that a refused call leaves lent memory and all bytes of the reader as they were, are held to the model.
 use crate::both::Both;
 use crate::common::files::{self, Dice};
-use crate::common::model::{self, Kind, Steps};
+use crate::common::model::{self, refused, Kind, Steps};
 use crate::differences::Name;
 use crate::ends;
 use crate::lent::Lent;
@@ -50,7 +50,7 @@ impl Run {
     pub fn new(file: &[u8], number: u64, score: &mut Score) -> Run {
         let (kind, start) = if number == 0 { (Kind::Ds2Sp, 0x600) } else { (Kind::DssSp, 512 * number as usize) };
         let (answer, reader) = Reader::open(number);
-        score.model("open", [0; 4], answer);
+        score.model("open", ours::answered(0, 0), answer);
         let (taken, theirs) = match kind {
             Kind::Ds2Sp => (model::taken_blocks(file), Some(Stream::ds2())),
             _ if model::dss_pieces_agree_from(file, start) => (usize::MAX, Some(Stream::dss(number as u8))),
@@ -80,17 +80,17 @@ impl Run {
         let owed = self.owed() as u64;
         if blocks > self.taken {
             let room = ample(dice.below(9), dice);
-            self.refuse(Name::Hold, [7, 12288, 0, owed], piece, room, score);
+            self.refuse(Name::Hold, ours::owing(refused(7, 12288), owed), piece, room, score);
             return false;
         }
         let (from, to) = (self.handed(), self.steps.ready[blocks]);
         if to > from && dice.percent(10) {
             let room = lacking(to - from, dice);
-            self.refuse(Name::PacketRoom, [8, (to - from) as u64, 0, owed], piece, room, score);
+            self.refuse(Name::PacketRoom, ours::owing(refused(8, (to - from) as u64), owed), piece, room, score);
         }
         let seen = Seen::of(ample(to - from, dice), |out, counts| self.reader.piece(piece, out, counts));
         self.given += piece.len();
-        let numbers = [0, 0, (to - from) as u64, self.owed() as u64];
+        let numbers = ours::answered((to - from) as u64, self.owed() as u64);
         self.hold("piece", numbers, from..to, &seen, score);
         if let Some(theirs) = &mut self.theirs {
             match theirs.push(piece) {
@@ -197,5 +197,5 @@ pub fn asked(reader: &mut Reader, expected: Numbers, name: Name, score: &mut Sco
 
 /// The refusal of an end inside the header.
 pub fn in_header(start: usize) -> Numbers {
-    ours::refused((3, start as u64))
+    ours::refused(refused(3, start as u64))
 }

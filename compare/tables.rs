@@ -1,5 +1,5 @@
 // The whole readings of QP and QP7 files: rows and records beside the original's segments, whose copied bytes are found in the file through
-// our own payload calls. Words past those used, short rooms and other refusals are held to the model.
+// our own payload calls. Words past those used, short rooms, how much of a record is missing and other refusals are held to the model.
 use crate::both::Both;
 use crate::common::files::Dice;
 use crate::common::model::{self, Kind};
@@ -26,7 +26,7 @@ fn refused(call: &'static str, kind: Kind, both: &Both, seen: impl Fn() -> (Numb
         Err(refusal) => refusal,
     };
     let expected = (ours::refused(refusal), true);
-    match (refusal.0, &both.ds2, &both.frames) {
+    match (refusal[0], &both.ds2, &both.frames) {
         (1, Some(Err((1, 0))), _) => score.original(call, expected, seen()),
         (2, _, _) => score.named(Name::Limit, call, expected, seen()),
         (3, _, _) => score.named(Name::Ds2CutHeader, call, expected, seen()),
@@ -40,6 +40,11 @@ fn refused(call: &'static str, kind: Kind, both: &Both, seen: impl Fn() -> (Numb
         _ => score.wrong(call, "the original takes a file without a magic"),
     }
     true
+}
+
+/// The refusal of a room that is too small for so many, by 8 or by 9.
+fn short_of(number: u64, needed: usize) -> Numbers {
+    ours::refused(model::refused(number, needed as u64))
 }
 
 /// A length of a table for so many rows of that many words: exact or a little longer.
@@ -78,12 +83,12 @@ fn qp(both: &Both, dice: &mut Dice, score: &mut Score) {
     let words = qp_words(&rows);
     let announced = model::announced(both.file, start);
     let (numbers, mut table) = ask_qp(both.file, ample(rows.len(), QP_WORDS, dice));
-    score.model(CALL, ([0, 0, rows.len() as u64, announced as u64], true), (numbers, table.holds(&words)));
+    score.model(CALL, (ours::answered(rows.len() as u64, announced as u64), true), (numbers, table.holds(&words)));
     let theirs = both.ds2.as_ref().map(segments);
     score.original(CALL, theirs, Some(qp_segments(both.file, numbers, table.part())));
     if !rows.is_empty() {
         let room = lacking(rows.len(), QP_WORDS, dice);
-        score.named(Name::TableRoom, CALL, ([9, rows.len() as u64, 0, 0], true), nothing(room));
+        score.named(Name::TableRoom, CALL, (short_of(9, rows.len()), true), nothing(room));
     }
 }
 
@@ -92,7 +97,7 @@ pub fn stream(file: &[u8]) -> Vec<u8> {
     let mut stream = Vec::new();
     for block in 0.. {
         match ours::payload(file, block) {
-            [0, 0, place, 0] => stream.extend_from_slice(&file[place as usize..place as usize + 506]),
+            [0, 0, place, 0, 0, 0] => stream.extend_from_slice(&file[place as usize..place as usize + 506]),
             _ => break,
         }
     }
@@ -150,10 +155,10 @@ fn qp7(both: &Both, dice: &mut Dice, score: &mut Score) {
             short_qp7(CALL, sizes, nothing, dice, score);
         }
         (Err(refusal), Some(Err(theirs))) => {
-            score.original(CALL, (ours::refused(*theirs), true), nothing(room));
-            if refusal != *theirs {
-                score.wrong(CALL, "the model and the original differ in the refusal");
-            }
+            // The original tells which refusal and the place; how much is missing it does not tell.
+            let (numbers, untouched) = nothing(room);
+            score.original(CALL, (*theirs, true), ((numbers[0], numbers[1]), untouched));
+            score.model(CALL, (ours::refused(refusal), true), (numbers, untouched));
         }
         _ => score.wrong(CALL, "the original and the description differ in whether the records can be read"),
     }
@@ -172,7 +177,7 @@ fn qp7_words(rows: &[model::Records]) -> (Vec<u32>, Vec<u32>) {
 fn read_qp7(file: &[u8], rows: &[model::Records], theirs: &original::Told<DemuxedDs2>, room: (usize, usize), score: &mut Score) {
     let (places, words) = qp7_words(rows);
     let (numbers, mut records, mut segments_table) = ask_qp7(file, room);
-    let expected = ([0, 0, places.len() as u64, rows.len() as u64], true, true);
+    let expected = (ours::answered(places.len() as u64, rows.len() as u64), true, true);
     score.model("demux_ds2_qp7", expected, (numbers, records.holds(&places), segments_table.holds(&words)));
     let seen = qp7_segments(file, numbers, records.part(), segments_table.part());
     score.original("demux_ds2_qp7", segments(theirs), seen);
@@ -203,9 +208,9 @@ where
     }
     let (few, enough) = (lacking(records, 1, dice), ample(records, 1, dice));
     let segments = dice.pick(&[0, QP7_WORDS * rows, QP7_WORDS * rows + 2]);
-    score.named(Name::PacketRoom, call, ([8, records as u64, 0, 0], true), nothing((few, segments)));
+    score.named(Name::PacketRoom, call, (short_of(8, records), true), nothing((few, segments)));
     let segments = lacking(rows, QP7_WORDS, dice);
-    score.named(Name::TableRoom, call, ([9, rows as u64, 0, 0], true), nothing((enough, segments)));
+    score.named(Name::TableRoom, call, (short_of(9, rows), true), nothing((enough, segments)));
 }
 
 /// Every length of the tables around the one that is needed.
@@ -216,11 +221,11 @@ pub fn rooms(both: &Both, score: &mut Score) {
         for words in expected.len().saturating_sub(5)..expected.len() + 5 {
             let (numbers, table) = ask_qp(both.file, words);
             if words / QP_WORDS < rows {
-                let expected = ([9, rows as u64, 0, 0], true);
+                let expected = (short_of(9, rows), true);
                 score.named(Name::TableRoom, "demux_ds2_qp", expected, (numbers, table.untouched()));
             } else {
                 let announced = model::announced(both.file, start) as u64;
-                score.model("demux_ds2_qp", ([0, 0, rows as u64, announced], true), (numbers, table.holds(&expected)));
+                score.model("demux_ds2_qp", (ours::answered(rows as u64, announced), true), (numbers, table.holds(&expected)));
             }
         }
     }
@@ -239,12 +244,12 @@ fn qp7_rooms(file: &[u8], (expected_places, expected_words): (Vec<u32>, Vec<u32>
             let (numbers, places, table) = ask_qp7(file, (room, words));
             let seen = (numbers, places.untouched() && table.untouched());
             if room < records {
-                score.named(Name::PacketRoom, CALL, ([8, records as u64, 0, 0], true), seen);
+                score.named(Name::PacketRoom, CALL, (short_of(8, records), true), seen);
             } else if words / QP7_WORDS < rows {
-                score.named(Name::TableRoom, CALL, ([9, rows as u64, 0, 0], true), seen);
+                score.named(Name::TableRoom, CALL, (short_of(9, rows), true), seen);
             } else {
                 let seen = (numbers, places.holds(&expected_places), table.holds(&expected_words));
-                score.model(CALL, ([0, 0, records as u64, rows as u64], true, true), seen);
+                score.model(CALL, (ours::answered(records as u64, rows as u64), true, true), seen);
             }
         }
     }

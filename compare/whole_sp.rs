@@ -2,7 +2,7 @@
 // short. Packets are the original's; counts, which it has not, are the model's.
 use crate::both::Both;
 use crate::common::files::Dice;
-use crate::common::model::{self, Kind, Packet};
+use crate::common::model::{self, refused, Kind, Packet};
 use crate::differences::Name;
 use crate::lent::Lent;
 use crate::ours::{self, Numbers};
@@ -88,12 +88,12 @@ pub fn compare(both: &Both, dice: &mut Dice, score: &mut Score) {
         let any = (dice.below(300), dice.below(9));
         match expected {
             Ok((kind, start)) => packets(call, both, (kind, start), dice, score),
-            Err((1, 0)) => {
+            Err([1, 0, 0, 0]) => {
                 let theirs = if call.dss { told(&both.dss) } else { told(&both.ds2) };
                 score.original(call.name, (theirs, true), call.refused(both.file, any));
             }
             Err(refusal) => {
-                let name = match refusal.0 {
+                let name = match refusal[0] {
                     2 => Name::Limit,
                     3 => call.cut,
                     _ => Name::KindOfCall,
@@ -107,8 +107,8 @@ pub fn compare(both: &Both, dice: &mut Dice, score: &mut Score) {
 /// The refusal of the original in our numbers; it can be asked where this is.
 fn told<T>(theirs: &Option<original::Told<T>>) -> Numbers {
     match theirs {
-        Some(Err(refusal)) => ours::refused(*refusal),
-        _ => [0; 4],
+        Some(Err((number, beside))) => ours::refused(refused(*number, *beside)),
+        _ => ours::answered(0, 0),
     }
 }
 
@@ -116,20 +116,20 @@ fn told<T>(theirs: &Option<original::Told<T>>) -> Numbers {
 fn packets(call: Call, both: &Both, (kind, start): (Kind, usize), dice: &mut Dice, score: &mut Score) {
     let expected = Packets::of(&model::packets(both.file, kind, start));
     let packets = expected.counts.len();
-    let numbers = [0, 0, packets as u64, 0];
+    let numbers = ours::answered(packets as u64, 0);
     let seen = call.ask(both.file, ample(packets, dice));
     let held = (seen.numbers, seen.out.holds(&expected.bytes), seen.counts.holds(&expected.counts));
     let theirs = if call.dss { both.dss.as_ref().map(dss_packets) } else { both.ds2.as_ref().map(sp_packets) };
     match theirs {
         Some((theirs, announced)) => {
-            score.original(call.name, ([0, 0, announced as u64, 0], true), (seen.numbers, seen.out.holds(&theirs)));
+            score.original(call.name, (ours::answered(announced as u64, 0), true), (seen.numbers, seen.out.holds(&theirs)));
             score.model(call.name, (numbers, true, true), held);
         }
         None => score.named(call.cut, call.name, (numbers, true, true), held),
     }
     if packets > 0 {
         let room = lacking(packets, dice);
-        score.named(Name::PacketRoom, call.name, ([8, packets as u64, 0, 0], true), call.refused(both.file, room));
+        score.named(Name::PacketRoom, call.name, (ours::refused(refused(8, packets as u64)), true), call.refused(both.file, room));
     }
 }
 
@@ -164,10 +164,10 @@ pub fn rooms(both: &Both, score: &mut Score) {
                 let seen = call.ask(both.file, (out, counts));
                 if packets > counts.min(out / 42) {
                     let untouched = seen.out.untouched() && seen.counts.untouched();
-                    score.named(Name::PacketRoom, call.name, ([8, packets as u64, 0, 0], true), (seen.numbers, untouched));
+                    score.named(Name::PacketRoom, call.name, (ours::refused(refused(8, packets as u64)), true), (seen.numbers, untouched));
                 } else {
                     let written = seen.out.holds(&expected.bytes) && seen.counts.holds(&expected.counts);
-                    score.model(call.name, ([0, 0, packets as u64, 0], true), (seen.numbers, written));
+                    score.model(call.name, (ours::answered(packets as u64, 0), true), (seen.numbers, written));
                 }
             }
         }

@@ -24,7 +24,7 @@ fn needed(packets: usize) -> usize {
 /// The model's answer in that room. No list that it is given is over the limit.
 fn expected(header: &[u8], packets: &[u8], room: usize) -> Answer<Vec<u8>> {
     match model::written(header, packets)? {
-        file if file.len() > room => Err((8, file.len() as u64)),
+        file if file.len() > room => Err(model::refused(8, file.len() as u64)),
         file => Ok(file),
     }
 }
@@ -34,7 +34,7 @@ fn ask(header: &[u8], packets: &[u8], room: usize, score: &mut Score) -> Option<
     let mut out = Lent::new(room);
     let numbers = ours::write_ds2_sp(header, packets, out.part());
     let (told, file) = match expected(header, packets, room) {
-        Ok(file) => ([0, 0, file.len() as u64, 0], file),
+        Ok(file) => (ours::answered(file.len() as u64, 0), file),
         Err(refusal) => (ours::refused(refusal), Vec::new()),
     };
     score.model(CALL, (told, true), (numbers, out.holds(&file)));
@@ -89,7 +89,7 @@ fn whole(file: &[u8], packets: &[u8], counts: &[u8], score: &mut Score) {
     let (mut out, mut told) = (Lent::new(packets.len()), Lent::new(counts.len()));
     let numbers = ours::demux_ds2_sp(file, out.part(), told.part());
     let seen = (numbers, out.holds(packets), told.holds(counts));
-    let all = ([0, 0, counts.len() as u64, 0], true, true);
+    let all = (ours::answered(counts.len() as u64, 0), true, true);
     if counts.is_empty() {
         score.named(Name::Ds2CutHeader, READ, all, seen);
     } else {
@@ -97,8 +97,8 @@ fn whole(file: &[u8], packets: &[u8], counts: &[u8], score: &mut Score) {
         score.original(READ, theirs(file), Some((packets.to_vec(), counts.len())));
     }
     let (blocks, many, bytes) = ((file.len() - HEADER) / 512, counts.len(), counts.iter().map(|&count| usize::from(count)).sum());
-    let tally = [0, 0, 1, HEADER, blocks, many, many, 0, bytes].map(|number| number as u64);
-    score.model("written: tally", tally, ours::tally(file));
+    let tally = [1, HEADER, blocks, many, many, 0, bytes].map(|number| number as u64);
+    score.model("written: tally", ours::tallied(tally), ours::tally(file));
 }
 
 /// After the strict end of either side, which says that nothing is owed, all packets are there.
@@ -117,7 +117,7 @@ fn in_pieces(file: &[u8], packets: &[u8], counts: &[u8], dice: &mut Dice, score:
         our_counts.extend_from_slice(&seen.counts.part()[..many]);
     }
     score.original(READ, (&their_packets[..], theirs.finish()), (packets, Ok(Vec::new())));
-    score.model(READ, (packets, counts, [0; 4]), (&our_packets[..], &our_counts[..], reader.strict_end()));
+    score.model(READ, (packets, counts, ours::answered(0, 0)), (&our_packets[..], &our_counts[..], reader.strict_end()));
 }
 
 /// Headers, lists and rooms with something wrong in some of them, so that the order of refusals shows too.
@@ -157,18 +157,18 @@ fn longest(dice: &mut Dice, score: &mut Score) {
         let numbers = ours::write_ds2_sp(&header, packets, out.part());
         score.model(CALL, (ours::refused(refusal), true), (numbers, out.untouched()));
     };
-    refused(&packets, (17, LIMIT as u64), score);
+    refused(&packets, model::refused(17, LIMIT as u64), score);
     packets[42 * MOST + 40] = 1;
-    refused(&packets, (16, MOST as u64), score);
+    refused(&packets, model::refused(16, MOST as u64), score);
     packets.truncate(42 * MOST);
-    refused(&packets, (8, LIMIT as u64), score);
+    refused(&packets, model::refused(8, LIMIT as u64), score);
     let mut file = vec![0; LIMIT];
     let numbers = ours::write_ds2_sp(&header, &packets, &mut file);
-    score.model(CALL, ([0, 0, LIMIT as u64, 0], true), (numbers, file.starts_with(&header)));
+    score.model(CALL, (ours::answered(LIMIT as u64, 0), true), (numbers, file.starts_with(&header)));
     let (mut back, mut counts) = (vec![0; packets.len()], vec![0; MOST]);
     let numbers = ours::demux_ds2_sp(&file, &mut back, &mut counts);
     let full = counts.chunks(2).all(|pair| pair == [42, 40]);
-    score.model("written: demux_ds2_sp", ([0, 0, MOST as u64, 0], true, true), (numbers, back == packets, full));
+    score.model("written: demux_ds2_sp", (ours::answered(MOST as u64, 0), true, true), (numbers, back == packets, full));
 }
 
 /// A recording with first byte 1 or 3: its packets, as the original reads them, are written under its own header, and the original reads the same

@@ -49,12 +49,15 @@
  * tally answers and its kind is KLOV_DS2_SP.
  * More than was announced nobody can tell: a block that was zeroed, lost or written twice announces otherwise, and the format has no checksum.
  *
- * REFUSALS, each with its number, its cause and the number beside it:
+ * REFUSALS, each with its number, its cause and the number beside it. 4 and 5 say by `size` and `absent` how much is missing; in every other
+ * answer these two are 0:
  *    1  under 4 bytes, or not a magic that the call takes                                  0
  *    2  input over the limit: a whole file, or all pieces together                         268435456
  *    3  a file shorter than its header, or an end after some bytes of a header, not all    where the audio starts
  *    4  QP7: fewer than 2 bytes where a record is to be read                               that place in the payload stream
+ *         size 0, since it cannot be told; absent: how many of the first 2 bytes are not there, which is always 2
  *    5  QP7: a record runs past the payload stream                                         its place in the payload stream
+ *         size: its bytes; absent: how many of them lie past the stream's end, an even number of at least 2
  *    6  a piece after the end or while draining; the strict end while draining             0
  *    7  a piece: what is unread would not fit in the reader's hold                         12288
  *    8  packets, records or bytes exceed the room                                          how many are needed
@@ -75,13 +78,14 @@
 
 #include <stddef.h>
 #include <stdint.h>
+#include <stdio.h>
 
 #ifdef __cplusplus
 extern "C" {
 #endif
 
 /* The version of all that is said here. It goes up with every change of an answer or of a layout; klov_version tells the archive's. */
-#define KLOV_VERSION 1u
+#define KLOV_VERSION 2u
 /* The longest input, and the longest file that is written, in bytes. */
 #define KLOV_LIMIT 268435456u
 /* Bytes of a packet, of a QP frame (and so of a scratch), of a block, and of a block's payload. */
@@ -149,17 +153,20 @@ enum { KLOV_DSS_SP = 0, KLOV_DS2_SP = 1, KLOV_DS2_QP = 2, KLOV_DS2_QP7 = 3 };
 enum { KLOV_READ_DS2 = 0, KLOV_READ_WHOLE = 1, KLOV_READ_DSS_2 = 2, KLOV_READ_DSS_3 = 3 };
 
 /* What most calls answer. `refusal` is 0, or a refusal's number, and then the number beside it is in `beside`. `first` and `second` are
- * named at each call; what is not named is 0. On a refusal `first` is 0, and so is `second` but for a reader's three calls. */
+ * named at each call; what is not named is 0. On a refusal `first` is 0, and so is `second` but for a reader's three calls. `size` and
+ * `absent` are 0 but beside the refusals 4 and 5. */
 typedef struct {
     uint64_t refusal;
     uint64_t beside;
     uint64_t first;
     uint64_t second;
+    uint64_t size;
+    uint64_t absent;
 } klov_answer;
 
 /* The tally of a file: its kind, where its audio starts, how many whole blocks follow, how many frames they announce; how many packets,
  * frames or records the whole reading hands out, how many of them are short, and how many bytes of the file they have. On a refusal these
- * seven are 0. */
+ * seven are 0. `size` and `absent` are as in klov_answer. */
 typedef struct {
     uint64_t refusal;
     uint64_t beside;
@@ -170,6 +177,8 @@ typedef struct {
     uint64_t handed;
     uint64_t short_count;
     uint64_t bytes;
+    uint64_t size;
+    uint64_t absent;
 } klov_tallied;
 
 /* A reader. What is in it is its own. */
@@ -274,16 +283,21 @@ KLOV_MUST_USE static inline int klov_complete_as_announced(const klov_tallied *t
         && file_len == tallied->start + KLOV_BLOCK * tallied->blocks;
 }
 
-/* A sentence for a refusal: a format for printf, with the number beside, an unsigned long long, for its one argument. Some do not use it. */
-KLOV_MUST_USE static inline const char *klov_refusal_text(uint64_t number)
+/* Room for any of the sentences below, with its end. */
+#define KLOV_SENTENCE 192u
+
+/* A sentence for a refusal, with its numbers, as snprintf puts it: into `text`, which has `room` bytes, KLOV_SENTENCE being enough. What comes
+ * back is how long the whole sentence is. A tally that was refused is asked for by an answer with the same refusal, beside, size and absent. */
+static inline int klov_refusal_sentence(char *text, size_t room, const klov_answer *refused)
 {
+    unsigned long long beside = refused->beside, size = refused->size, absent = refused->absent;
     static const char *const texts[] = {
         "the call answered",
         "this is not a recording that the call reads: its first four bytes are others, or are not there",
         "the input is over the limit of %llu bytes",
         "the recording ends inside its header, which has %llu bytes",
-        "a record should begin at place %llu of the payload stream, and its first two bytes are not there",
-        "the record at place %llu of the payload stream runs past the stream's end",
+        "a record should begin at place %llu of the payload stream: %llu of its first two bytes are missing",
+        "a record of %llu bytes at place %llu of the payload stream: %llu bytes are missing",
         "the reader has ended, or is being drained",
         "what is unread would not fit in the reader's hold of %llu bytes",
         "the room is too small for %llu packets, records or bytes",
@@ -297,7 +311,13 @@ KLOV_MUST_USE static inline const char *klov_refusal_text(uint64_t number)
         "packet %llu is cut short, or its byte 40 is not 0",
         "the file would be over the limit of %llu bytes",
     };
-    return number < sizeof texts / sizeof texts[0] ? texts[number] : "a refusal that is not known here, with %llu beside it";
+    const char *form = "a refusal that is not known here, with %llu beside it";
+    if (refused->refusal < sizeof texts / sizeof texts[0])
+        form = texts[refused->refusal];
+    /* Some sentences have fewer numbers: what is left over is not looked at. */
+    if (refused->refusal == KLOV_REFUSED_CUT_RECORD)
+        return snprintf(text, room, form, size, beside, absent);
+    return snprintf(text, room, form, beside, absent);
 }
 
 #ifdef __cplusplus

@@ -5,7 +5,7 @@ SOURCE_FOLDER is the original's folder `src`, with demux/mod.rs, demux/ds2.rs an
 script lays out the cases (every run writes the same bytes), works out every answer by its own model
 of the format's description (docs/FORMAT.md), asks the original Rust through probe.rs, and stops with
 the case if the two differ where docs/DIFFERENCES.md names no difference. In the list an answer that the
-Rust gave has the letter `r`, any other the letter `d`: refusals, the numbers beside them and file-byte
+Rust gave has the letter `r`, any other the letter `d`: refusals, their other numbers and file-byte
 counts always, though some are held to the Rust too; tables, most of the tally, and all that the Rust
 cannot be asked or answers otherwise. It also stops if some call is never refused by a number that it
 can give.
@@ -35,14 +35,25 @@ QP_WORDS, QP7_WORDS = 4, 3  # of a segment's entry
 # ---- The description: the whole readings
 
 class Refused(Exception):
-    """A refusal: its number and the number beside it."""
+    """A refusal: its number and the number beside it; and of a record its size, and how many bytes are absent."""
+    def __init__(self, number, beside, size=0, absent=0):
+        super().__init__(number, beside, size, absent)
+        self.numbers, self.lack = (number, beside), (size, absent)
 
 def attempt(call, empty, *arguments):
     """The refusal (0, 0 if none) and the answer (the empty one if refused)."""
     try:
         return (0, 0), call(*arguments)
     except Refused as refused:
-        return refused.args, empty
+        return refused.numbers, empty
+
+def lack(call, *arguments):
+    """Of a record that is refused its size, and how many bytes are absent; else 0, 0."""
+    try:
+        call(*arguments)
+        return (0, 0)
+    except Refused as refused:
+        return refused.lack
 
 def good_header(h):
     fixed = len(h) >= 6 and (h[0], h[3], h[5]) == (0x0F, 0xFF, 0xFF)
@@ -164,11 +175,12 @@ def read_qp7(file, room, for_segments):
             segments.append((first, len(records) - first, int(segments != [])))
         place = max(place, first_place(b, h) if h[2] else PAYLOAD * (b + 1))
         for _ in range(h[2]):
-            if place + 2 > len(blocks.stream):
-                raise Refused(4, place)
+            left = len(blocks.stream) - place
+            if left < 2:
+                raise Refused(4, place, 0, 2 - left)
             size = 56 if blocks.stream[place + 1] & 128 else 12
-            if place + size > len(blocks.stream):
-                raise Refused(5, place)
+            if left < size:
+                raise Refused(5, place, size, size - left)
             records.append((place, blocks.stream[place:place + size]))
             place += size
     return fits(records, room), fits(segments, for_segments, 9)
@@ -189,6 +201,7 @@ def tally(file):
 
 def listing(file):
     refusal, counts = attempt(tally, None, file)
+    refusal = refusal + lack(tally, file) if refusal[0] in (4, 5) else refusal
     refusal = (2, LIST_LIMIT) if len(file) > LIST_LIMIT else refusal
     names = ("DSSSP", "DS2SP", "DS2QP", "DS2QP7")
     parts = ["refused", *refusal] if refusal[0] else [names[counts[0]], *counts[1:]]
@@ -355,11 +368,12 @@ def qp_answers(file, case):
     return [*refusal, len(segments), announced, lent(sum(segments, ()), case.table, 16), digest(values)]
 
 def qp7_answers(file, case):
-    refusal, (records, segments) = attempt(read_qp7, ([], []), file, case.records, case.segments // QP7_WORDS)
+    rooms = case.records, case.segments // QP7_WORDS
+    refusal, (records, segments) = attempt(read_qp7, ([], []), file, *rooms)
     values = [v for first, count, reset in segments
               for v in (count, reset, *b"".join(r for _, r in records[first:first + count]))]
     return [*refusal, len(records), len(segments), lent([place for place, _ in records], case.records, 16),
-            lent(sum(segments, ()), case.segments, 16), digest(values)]
+            lent(sum(segments, ()), case.segments, 16), digest(values), *lack(read_qp7, file, *rooms)]
 
 def reader_answers(case, r):
     out = r.packets[:r.out]
@@ -401,21 +415,21 @@ def answers(case, file, reader):
     return [None, detect_format(file), start, Blocks(file, start).type, *sp_answers(read_dss, file, case),
             *sp_answers(read_sp, file, case), *qp_answers(file, case), *qp7_answers(file, case),
             *reader_answers(case, reader), *part_answers(case, file), digest(listing(file).encode()), *refusal, *counts,
-            *more_answers(case, file, reader)]
+            *lack(tally, file), *more_answers(case, file, reader)]
 
 # ---- The Rust
 
 DEMUX_DSS, DEMUX_DS2, READ_PIECES = 1, 2, 4
 # Where the Rust answers: the answers, the call that gives them, when they must be the same.
-RUST = (((1, 2, 3, 68, 69), 0, lambda a: True), ((6, 7), DEMUX_DSS, lambda a: a[4] == 0),
+RUST = (((1, 2, 3, 72, 73), 0, lambda a: True), ((6, 7), DEMUX_DSS, lambda a: a[4] == 0),
         ((11, 12), DEMUX_DS2, lambda a: a[9] == 0), ((16, 17, 19), DEMUX_DS2, lambda a: a[14] == 0),
-        ((22, 23, 26), DEMUX_DS2, lambda a: a[20] == 0), ((32, 33, 34), READ_PIECES, lambda a: a[30] == 0),
-        ((41, 42), READ_PIECES, lambda a: a[30] == a[39] == a[44] == 0),
-        ((65,), DEMUX_DS2, lambda a: a[59] == 0 and a[61] > 1))
+        ((22, 23, 26), DEMUX_DS2, lambda a: a[20] == 0), ((34, 35, 36), READ_PIECES, lambda a: a[32] == 0),
+        ((43, 44), READ_PIECES, lambda a: a[32] == a[41] == a[46] == 0),
+        ((67,), DEMUX_DS2, lambda a: a[61] == 0 and a[63] > 1))
 # Also compared, but the description's: refusals for which the Rust has an error, the bytes of QP frames.
 ALSO = (((4,), DEMUX_DSS, lambda a: a[4] == 1), ((9, 14, 20), DEMUX_DS2, lambda a: a[9] == 1),
-        ((20, 21), DEMUX_DS2, lambda a: a[20] in (4, 5)), ((67,), DEMUX_DS2, lambda a: a[59] == 0 and a[61] > 1),
-        ((32, 33, 34, 37, 39), READ_PIECES, lambda a: True))
+        ((20, 21), DEMUX_DS2, lambda a: a[20] in (4, 5)), ((69,), DEMUX_DS2, lambda a: a[61] == 0 and a[63] > 1),
+        ((34, 35, 36, 39, 41), READ_PIECES, lambda a: True))
 
 def allowed(file, reader):
     """The calls to make; where the Rust faults, it may end the process."""
@@ -705,10 +719,10 @@ GROUPS = (examples, magics_and_types, lengths, headers_alone, scan, sp_packets, 
 # Where each call's refusal stands, and by which numbers it is refused somewhere in the list. Refusal 2 is not
 # among them: no file of the list is long enough.
 REFUSALS = {"demux_dss": (4, {0, 1, 3, 8}), "SP": (9, {0, 1, 3, 8, 11}), "QP": (14, {0, 1, 3, 9, 11}),
-            "QP7": (20, {0, 1, 3, 4, 5, 8, 9, 11}), "open": (27, {0, 10}), "piece": (30, {0, 6, 7, 8}),
-            "strict end": (37, {0, 3, 13, 14}), "lenient end": (39, {0, 3}), "piece after": (45, {0, 6}),
-            "fetch": (48, {0, 1, 3, 12}), "payload": (54, {0, 1, 3, 12}), "tally": (59, {0, 1, 3, 4, 5}),
-            "strict end after": (77, {0, 3, 6}), "frame_place": (85, {0, 1, 3, 12})}
+            "QP7": (20, {0, 1, 3, 4, 5, 8, 9, 11}), "open": (29, {0, 10}), "piece": (32, {0, 6, 7, 8}),
+            "strict end": (39, {0, 3, 13, 14}), "lenient end": (41, {0, 3}), "piece after": (47, {0, 6}),
+            "fetch": (50, {0, 1, 3, 12}), "payload": (56, {0, 1, 3, 12}), "tally": (61, {0, 1, 3, 4, 5}),
+            "strict end after": (81, {0, 3, 6}), "frame_place": (89, {0, 1, 3, 12})}
 
 def entry(number, case, found, rust):
     file = [number, *case.magic, case.length, case.start, case.fill, case.seed, len(case.headers)]

@@ -103,7 +103,7 @@ fn detect(request: &Request) -> Pairs {
     let begin = request.probe.min(file.len());
     let part = &file[begin..(begin + request.part).min(file.len())];
     let good = demux::ds2::is_ds2_audio_block_header(part);
-    vec![(1, format), (2, start as u64), (3, kind as u64), (68, there as u64), (69, good as u64)]
+    vec![(1, format), (2, start as u64), (3, kind as u64), (72, there as u64), (73, good as u64)]
 }
 
 fn dss(request: &Request) -> Pairs {
@@ -140,7 +140,7 @@ fn ds2(request: &Request) -> Pairs {
 fn qp_frames(request: &Request) -> Pairs {
     let mut demuxer = Ds2QpStreamDemuxer::new();
     match demuxer.push(request.file).and_then(|_| demuxer.finish()) {
-        Ok(frames) => vec![(65, frames.len() as u64), (67, bytes(&frames).count() as u64)],
+        Ok(frames) => vec![(67, frames.len() as u64), (69, bytes(&frames).count() as u64)],
         Err(_) => Vec::new(),
     }
 }
@@ -167,10 +167,10 @@ fn pieces<D>(
     };
     let count = out.len() as u64;
     let handed = digest(numbers.into_iter());
-    let mut found = vec![(32, count), (33, handed), (34, digest(bytes(&out))), (37, strict)];
+    let mut found = vec![(34, count), (35, handed), (36, digest(bytes(&out))), (39, strict)];
     match finish_lenient(&mut demuxer) {
-        Ok(last) => found.extend([(39, 0), (41, last.len() as u64), (42, digest(bytes(&last)))]),
-        Err(_) => found.push((39, 3)),
+        Ok(last) => found.extend([(41, 0), (43, last.len() as u64), (44, digest(bytes(&last)))]),
+        Err(_) => found.push((41, 3)),
     }
     found
 }

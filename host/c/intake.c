@@ -97,8 +97,7 @@ struct intake {
     bool complete;
     uint64_t cut;
     uint64_t owed;
-    uint64_t refusal;
-    uint64_t beside;
+    klov_answer refused; /* only what it says of a refusal is looked at */
 };
 
 /* What a way of reading comes to. */
@@ -452,10 +451,9 @@ static void put_packets(struct intake *it, const uint8_t *out, const uint8_t *co
         put(it, out + KLOV_PACKET * i, KLOV_PACKET, counts[i], next_size(&it->sizes));
 }
 
-static enum outcome refused(struct intake *it, uint64_t refusal, uint64_t beside)
+static enum outcome refused(struct intake *it, klov_answer a)
 {
-    it->refusal = refusal;
-    it->beside = beside;
+    it->refused = a;
     return IS_REFUSED;
 }
 
@@ -523,7 +521,7 @@ static enum outcome take_piece(struct intake *it, struct pieces *p)
     if (a.refusal == KLOV_REFUSED_HOLD)
         return READS_WHOLE;
     if (a.refusal != KLOV_ANSWERED)
-        return refused(it, a.refusal, a.beside);
+        return refused(it, a);
     if (!p->type_known && a.first + a.second > 0) {
         if (!turns_out_sp(&it->in))
             return READS_WHOLE;
@@ -544,13 +542,13 @@ static enum outcome end_pieces(struct intake *it, struct pieces *p)
         return READ;
     }
     if (a.refusal != KLOV_REFUSED_CUT_BLOCK && a.refusal != KLOV_REFUSED_OWING)
-        return refused(it, a.refusal, a.beside);
+        return refused(it, a);
     it->cut = a.refusal == KLOV_REFUSED_CUT_BLOCK ? a.beside : 0;
     it->owed = a.second;
     do {
         a = klov_lenient_end(&p->reader, p->out.at, p->out.room, p->counts.at, p->counts.room);
         if (a.refusal != KLOV_ANSWERED)
-            return refused(it, a.refusal, a.beside);
+            return refused(it, a);
         put_packets(it, p->out.at, p->counts.at, a.first);
     } while (a.second > 0);
     tally_again(it);
@@ -566,7 +564,7 @@ static enum outcome feed(struct intake *it, struct pieces *p)
         return READS_WHOLE;
     klov_opened opened = klov_open(kind);
     if (opened.answer.refusal != KLOV_ANSWERED)
-        return refused(it, opened.answer.refusal, opened.answer.beside);
+        return refused(it, opened.answer);
     p->reader = opened.reader;
     it->sizes.dss = kind != KLOV_READ_DS2;
     it->sizes.start = it->sizes.dss ? KLOV_DSS_START(kind) : KLOV_DS2_START;
@@ -607,7 +605,7 @@ static enum outcome whole_sp(struct intake *it, const struct bytes *file, const 
         put_packets(it, out.at, counts.at, a.first);
     drop(&out);
     drop(&counts);
-    return a.refusal == KLOV_ANSWERED ? READ : refused(it, a.refusal, a.beside);
+    return a.refusal == KLOV_ANSWERED ? READ : refused(it, a);
 }
 
 /* Bytes of the payload stream: in the file where they lie together, else in the scratch. */
@@ -642,7 +640,7 @@ static enum outcome whole_qp(struct intake *it, const struct bytes *file)
     for (uint64_t i = 0; i < a.first; i++)
         put_frames(it, file, (uint32_t *)table.at + KLOV_QP_WORDS * i);
     drop(&table);
-    return a.refusal == KLOV_ANSWERED ? READ : refused(it, a.refusal, a.beside);
+    return a.refusal == KLOV_ANSWERED ? READ : refused(it, a);
 }
 
 static void put_record(struct intake *it, const struct bytes *file, uint32_t place)
@@ -666,7 +664,7 @@ static enum outcome whole_qp7(struct intake *it, const struct bytes *file, const
         put_record(it, file, ((uint32_t *)records.at)[i]);
     drop(&records);
     drop(&segments);
-    return a.refusal == KLOV_ANSWERED ? READ : refused(it, a.refusal, a.beside);
+    return a.refusal == KLOV_ANSWERED ? READ : refused(it, a);
 }
 
 static enum outcome whole_kind(struct intake *it, const struct bytes *file, const klov_tallied *t)
@@ -687,7 +685,7 @@ static enum outcome read_whole(struct intake *it)
     hold_all(&it->in);
     klov_tallied t = klov_tally(file->at, file->len);
     if (t.refusal != KLOV_ANSWERED)
-        return refused(it, t.refusal, t.beside);
+        return refused(it, (klov_answer){.refusal = t.refusal, .beside = t.beside, .size = t.size, .absent = t.absent});
     enum outcome outcome = whole_kind(it, file, &t);
     if (outcome != READ)
         return outcome;
@@ -712,12 +710,22 @@ static void print_shorts(const struct intake *it)
     }
 }
 
+/* The refusal's number and the number beside it; of a record that cannot be read its size and the bytes that are absent; a sentence. */
+static void print_refusal(const klov_answer *a)
+{
+    char sentence[KLOV_SENTENCE];
+    klov_refusal_sentence(sentence, sizeof sentence, a);
+    printf("refused %llu %llu", (unsigned long long)a->refusal, (unsigned long long)a->beside);
+    if (a->refusal == KLOV_REFUSED_NO_RECORD || a->refusal == KLOV_REFUSED_CUT_RECORD)
+        printf(" %llu %llu", (unsigned long long)a->size, (unsigned long long)a->absent);
+    printf(": %s", sentence);
+}
+
 static enum status print_line(const struct intake *it, enum outcome outcome)
 {
-    unsigned long long handed = it->handed, beside = it->beside;
+    unsigned long long handed = it->handed;
     if (outcome == IS_REFUSED) {
-        printf("refused %llu %llu: ", (unsigned long long)it->refusal, beside);
-        printf(klov_refusal_text(it->refusal), beside);
+        print_refusal(&it->refused);
     } else if (it->complete) {
         printf("complete as announced: %llu %s", handed, it->unit);
     } else {

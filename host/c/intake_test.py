@@ -63,7 +63,10 @@ def audio_start(data):
 
 
 class Refused(Exception):
-    pass
+    """A refusal's numbers: its own, the one beside it, and of a record that cannot be read its size and how many bytes are absent."""
+
+    def __init__(self, number, beside, size=0, absent=0):
+        super().__init__(number, beside, size, absent)
 
 
 class Recording:
@@ -162,11 +165,12 @@ def qp7_records(rec):
     for i, h in enumerate(rec.heads):
         place = max(place, PAYLOAD * (i + 1) if h[2] == 0 else frames_start(rec, i))
         for _ in range(h[2]):
-            if len(rec.stream) - place < 2:
-                raise Refused(4, place)
+            there = max(0, len(rec.stream) - place)
+            if there < 2:
+                raise Refused(4, place, 0, 2 - there)
             size = 56 if rec.stream[place + 1] & 0x80 else 12
-            if place + size > len(rec.stream):
-                raise Refused(5, place)
+            if there < size:
+                raise Refused(5, place, size, size - there)
             records.append(rec.stream[place:place + size])
             place += size
     return records
@@ -182,8 +186,14 @@ def in_ranges(numbers):
     return " ".join(str(a) if a == b else f"{a}-{b}" for a, b in spans)
 
 
-def refused(number, beside):
-    return f"refused {number} {beside}: {SENTENCES[number].replace('%llu', str(beside))}\n"
+def refused(number, beside, size=0, absent=0):
+    """The line of a refusal; of a record that cannot be read it tells how much is missing, too."""
+    numbers, sentence = f"{number} {beside}", SENTENCES[number]
+    if number in (4, 5):
+        numbers += f" {size} {absent}"
+    for one in {4: (beside, absent), 5: (size, beside, absent)}.get(number, (beside,)):
+        sentence = sentence.replace("%llu", str(one), 1)
+    return f"refused {numbers}: {sentence}\n"
 
 
 def expected(data):
@@ -411,6 +421,18 @@ def random_recording(m):
     return m.file(magic, start, *blocks, tail=b"\x11" * r.choice((0, 0, r.randrange(512))))
 
 
+def cut_named(m):
+    """QP7 records without a gap, all of a size, in one block or two; of the last announced one so many bytes are there."""
+    for blocks, size, second in ((1, 12, 0x7F), (1, 56, 0x80), (2, 12, 0), (2, 56, 0xFF)):
+        for there in (0, 2, size // 2, size - 2):
+            whole, first = divmod(PAYLOAD * blocks - there, size)
+            record = bytes((1, second)) + b"\x55" * (size - 2)
+            stream = (bytes(first) + record * (whole + 1))[:PAYLOAD * blocks]
+            heads = [(whole + 1, 3 + first // 2)] if blocks == 1 else [(whole, 3 + first // 2), (1, 3)]
+            made = [m.block(count, byte1, kind=7, payload=stream[PAYLOAD * i:PAYLOAD * (i + 1)]) for i, (count, byte1) in enumerate(heads)]
+            yield f"qp7 in {blocks} blocks, {there} of {size} bytes", m.file(b"\x01ds2", 1536, *made)
+
+
 def damages(b, i=40):
     """Twelve ways in which the blocks of a recording are damaged."""
     head, payload = b[i][:HEAD], b[i][HEAD:]
@@ -446,6 +468,7 @@ def recordings():
         yield from named(m)
     for n in range(80):
         yield f"random {n}", random_recording(m)
+    yield from cut_named(m)
 
 
 # The runs.
@@ -527,17 +550,28 @@ class Trial:
         self.run(name, arguments, ("", packets, status), says, **given)
 
 
+# Lines of some recordings word for word, which hold the model and the header's sentences to them.
+LINES = {
+    "qp7 refused 4": "refused 4 506 0 2: a record should begin at place 506 of the payload stream: 2 of its first two bytes are missing\n",
+    "qp7 refused 5": "refused 5 504 56 54: a record of 56 bytes at place 504 of the payload stream: 54 bytes are missing\n",
+    "qp7 in 2 blocks, 2 of 12 bytes": "refused 5 1010 12 10: a record of 12 bytes at place 1010 of the payload stream: 10 bytes are missing\n",
+}
+
+
 def read_all(trial):
     """Every recording in pieces of every size, and once through a pipe; how many there were of each outcome."""
-    seen = {}
+    seen, lines = {}, dict(LINES)
     for n, (name, data) in enumerate(recordings()):
         want = expected(data)
+        line = lines.pop(name, want[0])
+        trial.hold(name, "" if line == want[0] else f"the model expects {want[0]!r}, and not {line!r}")
         outcome = " ".join(want[0].replace(":", "").split(" ")[:2]) if want[2] == REFUSED else want[0].split(":")[0]
         seen[outcome] = seen.get(outcome, 0) + 1
         pieces = PIECES[1 if len(data) > LONG else 0:]
         for piece in pieces:
             trial.read(name, data, want, piece, force=piece == 512)
         trial.read(name, data, want, pieces[n % len(pieces)], by="/dev/stdin" if n % 10 == 0 else "-")
+    trial.hold("lines", f"no recording is called {sorted(lines)}" if lines else "")
     return seen
 
 

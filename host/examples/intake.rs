@@ -250,7 +250,7 @@ impl Pieces {
         let piece = input.last_piece();
         let packets = loop {
             match self.reader.piece(piece, &mut self.room.bytes, &mut self.room.counts) {
-                Err(Refusal { number: Refusal::ROOM, beside }) => self.room = room_for(beside as usize)?,
+                Err(Refusal { number: Refusal::ROOM, beside, .. }) => self.room = room_for(beside as usize)?,
                 Err(Refusal { number: Refusal::HOLD, .. }) => return Ok(false),
                 answer => break answer?,
             }
@@ -274,7 +274,7 @@ impl Pieces {
     fn end(mut self, input: &mut Input, output: &mut Output) -> Outcome<Ended> {
         let (complete, cut) = match self.reader.strict_end() {
             Ok(()) => (true, 0),
-            Err(Refusal { number: Refusal::CUT_BLOCK, beside }) => (false, beside as usize),
+            Err(Refusal { number: Refusal::CUT_BLOCK, beside, .. }) => (false, beside as usize),
             Err(Refusal { number: Refusal::OWING, .. }) => (false, 0),
             Err(refusal) => return Err(refusal.into()),
         };

@@ -1,7 +1,8 @@
-//! Why a call refuses. It rests on the archive's refusals, each with a number beside it; which call refuses by which the header lists.
+//! Why a call refuses. It rests on the archive's refusals, each with its numbers; which call refuses by which the header lists.
 use std::fmt;
 
-/// A refusal: its number, and the number beside it. What was lent to the refused call, and a reader, are as they were.
+/// A refusal: its number, the number beside it, and of a QP7 record how much is missing. What was lent to the refused call, and a reader, are
+/// as they were.
 #[must_use]
 #[derive(Debug, Clone, Copy, PartialEq, Eq)]
 pub struct Refusal {
@@ -9,6 +10,11 @@ pub struct Refusal {
     pub number: u64,
     /// What goes with it: a place, a size, how many are needed; 0 where nothing does.
     pub beside: u64,
+    /// By [`CUT_RECORD`](Refusal::CUT_RECORD) the bytes of the record; 0 by every other.
+    pub size: u64,
+    /// By [`CUT_RECORD`](Refusal::CUT_RECORD) how many of them lie past the payload stream's end, an even number of at least 2; by
+    /// [`NO_RECORD`](Refusal::NO_RECORD) how many of the first 2 bytes are not there, which is always 2; 0 by every other.
+    pub absent: u64,
 }
 
 /// The numbers by name, as the header has them.
@@ -38,13 +44,13 @@ pub type Result<T> = std::result::Result<T, Refusal>;
 
 impl fmt::Display for Refusal {
     fn fmt(&self, to: &mut fmt::Formatter<'_>) -> fmt::Result {
-        let beside = self.beside;
+        let Refusal { beside, size, absent, .. } = *self;
         match self.number {
             Refusal::MAGIC => write!(to, "this is not a recording that the call reads: its first four bytes are others, or are not there"),
             Refusal::LIMIT => write!(to, "the input is over the limit of {beside} bytes"),
             Refusal::HEADER => write!(to, "the recording ends inside its header, which has {beside} bytes"),
-            Refusal::NO_RECORD => write!(to, "a record should begin at place {beside} of the payload stream, and its first two bytes are not there"),
-            Refusal::CUT_RECORD => write!(to, "the record at place {beside} of the payload stream runs past the stream's end"),
+            Refusal::NO_RECORD => write!(to, "a record should begin at place {beside} of the payload stream: {absent} of its first two bytes are missing"),
+            Refusal::CUT_RECORD => write!(to, "a record of {size} bytes at place {beside} of the payload stream: {absent} bytes are missing"),
             Refusal::ENDED => write!(to, "the reader has ended, or is being drained"),
             Refusal::HOLD => write!(to, "what is unread would not fit in the reader's hold of {beside} bytes"),
             Refusal::ROOM => write!(to, "the room is too small for {beside} packets, records or bytes"),

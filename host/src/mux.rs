@@ -24,7 +24,7 @@ pub fn write_ds2_sp_into(header: &[u8], packets: &[u8], out: &mut [u8]) -> Resul
 /// How many bytes the file has, with nothing written. Refusals 15, 16, 17.
 pub fn ds2_sp_file_size(header: &[u8], packets: &[u8]) -> Result<usize> {
     match write_ds2_sp_into(header, packets, &mut []) {
-        Err(Refusal { number: Refusal::ROOM, beside }) => Ok(beside as usize),
+        Err(Refusal { number: Refusal::ROOM, beside, .. }) => Ok(beside as usize),
         answer => answer,
     }
 }

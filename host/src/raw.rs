@@ -8,7 +8,7 @@ use std::mem::{align_of, size_of, MaybeUninit};
 use std::sync::atomic::{AtomicBool, Ordering};
 
 /// The version of the archive that these declarations are for.
-pub(crate) const VERSION: u64 = 1;
+pub(crate) const VERSION: u64 = 2;
 const READER_SIZE: usize = 12928;
 
 /// `klov_answer`.
@@ -19,6 +19,8 @@ pub(crate) struct Answer {
     pub(crate) beside: u64,
     pub(crate) first: u64,
     pub(crate) second: u64,
+    pub(crate) size: u64,
+    pub(crate) absent: u64,
 }
 
 /// `klov_tallied`: a file in numbers.
@@ -34,6 +36,8 @@ pub(crate) struct Tallied {
     pub(crate) handed: u64,
     pub(crate) short_count: u64,
     pub(crate) bytes: u64,
+    pub(crate) size: u64,
+    pub(crate) absent: u64,
 }
 
 /// `klov_reader`: what is in it is its own. It may be copied and moved as a whole.
@@ -51,10 +55,10 @@ pub(crate) struct Opened {
     pub(crate) reader: Reader,
 }
 
-const _: () = assert!(size_of::<Answer>() == 32 && align_of::<Answer>() == 8);
-const _: () = assert!(size_of::<Tallied>() == 72 && align_of::<Tallied>() == 8);
+const _: () = assert!(size_of::<Answer>() == 48 && align_of::<Answer>() == 8);
+const _: () = assert!(size_of::<Tallied>() == 88 && align_of::<Tallied>() == 8);
 const _: () = assert!(size_of::<Reader>() == READER_SIZE && align_of::<Reader>() == 8);
-const _: () = assert!(size_of::<Opened>() == 32 + READER_SIZE && align_of::<Opened>() == 8);
+const _: () = assert!(size_of::<Opened>() == 48 + READER_SIZE && align_of::<Opened>() == 8);
 
 extern "C" {
     fn klov_version() -> u64;
@@ -144,17 +148,22 @@ fn checked() {
     }
 }
 
-fn accepted<T>(refusal: u64, beside: u64, answer: T) -> Result<T> {
-    match refusal {
+fn accepted<T>(refusal: Refusal, answer: T) -> Result<T> {
+    match refusal.number {
         0 => Ok(answer),
-        number => Err(Refusal { number, beside }),
+        _ => Err(refusal),
     }
 }
 
 impl Answer {
+    /// The refusal, whose number is 0 where there is none.
+    fn refusal(self) -> Refusal {
+        Refusal { number: self.refusal, beside: self.beside, size: self.size, absent: self.absent }
+    }
+
     /// `first` and `second`, or the refusal. A `usize` has 64 bits here, so nothing is cut.
     fn pair(self) -> Result<(usize, usize)> {
-        accepted(self.refusal, self.beside, (self.first as usize, self.second as usize))
+        accepted(self.refusal(), (self.first as usize, self.second as usize))
     }
 
     fn first(self) -> Result<usize> {
@@ -242,14 +251,15 @@ pub(crate) fn show(file: &[u8], place: usize, size: usize, scratch: &[u8]) -> Re
 pub(crate) fn tally(file: &[u8]) -> Result<Tallied> {
     checked();
     let tallied = unsafe { klov_tally(file.as_ptr(), file.len()) };
-    accepted(tallied.refusal, tallied.beside, tallied)
+    let Tallied { refusal: number, beside, size, absent, .. } = tallied;
+    accepted(Refusal { number, beside, size, absent }, tallied)
 }
 
 /// A fresh reader. The ended one that a refused opening gives is not kept.
 pub(crate) fn open(kind: u64) -> Result<Reader> {
     checked();
     let Opened { answer, reader } = unsafe { klov_open(kind) };
-    accepted(answer.refusal, answer.beside, reader)
+    accepted(answer.refusal(), reader)
 }
 
 pub(crate) fn piece(reader: &mut Reader, piece: &[u8], out: &mut [u8], counts: &mut [u8]) -> (Result<usize>, usize) {

@@ -8,7 +8,7 @@ use klovdrun::demux::{detect_format, dss, AudioFormat};
 use klovdrun::{frames, places, tally, FilePlace, Refusal, StreamPlace, Tally, FRAME};
 
 fn refusal<T>(number: u64, beside: u64) -> Result<T, Refusal> {
-    Err(Refusal { number, beside })
+    Err(Refusal { number, beside, size: 0, absent: 0 })
 }
 
 /// The number of packets, or the refusal.
@@ -62,10 +62,12 @@ fn a_swapped_read_and_the_carried_byte() {
 
 #[test]
 fn a_qp7_record_that_cannot_be_read() {
-    for (first, expected) in [(3, (5, 504)), (4, (4, 506))] {
+    let cut = Refusal { number: 5, beside: 504, size: 56, absent: 54 };
+    let none = Refusal { number: 4, beside: 506, size: 0, absent: 2 };
+    for (first, expected) in [(3, cut), (4, none)] {
         let file = file(b"\x01ds2", 1536, &[[0x0F, first, 10, 0xFF, 7, 0xFF]], |_| 0xFF);
-        assert_eq!(ds2::demux_ds2(&file).err(), refusal::<()>(expected.0, expected.1).err());
-        assert_eq!(tally(&file), refusal(expected.0, expected.1));
+        assert_eq!(ds2::demux_ds2(&file).err(), Some(expected));
+        assert_eq!(tally(&file), Err(expected));
     }
 }
 

@@ -69,9 +69,9 @@ fn in_pieces(kind: u64, pieces: &[&[u8]]) -> Told {
     }
     match fed.reader.strict_end() {
         Ok(()) => Told::Complete,
-        Err(Refusal { number: Refusal::CUT_BLOCK, beside }) => Told::Cut(beside),
-        Err(Refusal { number: Refusal::OWING, beside }) => Told::Owing(beside),
-        Err(Refusal { number: Refusal::HEADER, beside }) => Told::InsideHeader(beside),
+        Err(Refusal { number: Refusal::CUT_BLOCK, beside, size: 0, absent: 0 }) => Told::Cut(beside),
+        Err(Refusal { number: Refusal::OWING, beside, size: 0, absent: 0 }) => Told::Owing(beside),
+        Err(Refusal { number: Refusal::HEADER, beside, size: 0, absent: 0 }) => Told::InsideHeader(beside),
         Err(refusal) => panic!("{refusal}"),
     }
 }
@@ -90,6 +90,16 @@ fn made(seed: u64, dice: &mut Dice) -> Vec<u8> {
     }
 }
 
+/// Whether it is one of the two refusals of a record, with so much missing as can be.
+fn is_of_a_record(refusal: Refusal) -> bool {
+    let Refusal { number, size, absent, .. } = refusal;
+    match number {
+        Refusal::NO_RECORD => (size, absent) == (0, 2),
+        Refusal::CUT_RECORD => matches!(size, 12 | 56) && absent % 2 == 0 && (2..size).contains(&absent),
+        _ => false,
+    }
+}
+
 /// Holds what the rule says of a recording in pieces to its tally.
 fn hold(file: &[u8], kind: u64, told: Told, whole: Result<Tally, Refusal>) {
     let complete = whole.map_or(false, |whole| whole.complete_as_announced(file.len()));
@@ -99,9 +109,9 @@ fn hold(file: &[u8], kind: u64, told: Told, whole: Result<Tally, Refusal>) {
         Told::Hold => assert_eq!(kind, 0),
         Told::NotSp => match whole {
             Ok(whole) => assert!(kind == 0 && !is_sp(whole.kind)),
-            Err(refusal) => assert!(matches!(refusal.number, Refusal::NO_RECORD | Refusal::CUT_RECORD)),
+            Err(refusal) => assert!(is_of_a_record(refusal), "{refusal:?}"),
         },
-        Told::InsideHeader(start) => assert_eq!(whole, Err(Refusal { number: Refusal::HEADER, beside: start })),
+        Told::InsideHeader(start) => assert_eq!(whole, Err(Refusal { number: Refusal::HEADER, beside: start, size: 0, absent: 0 })),
         Told::Complete | Told::Cut(_) | Told::Owing(_) => {
             let whole = whole.unwrap();
             assert!(is_sp(whole.kind) && (whole.kind == AudioFormat::DssSp) == (kind != 0));
@@ -246,7 +256,7 @@ fn ends_that_say_nothing() {
         assert_eq!((reader.strict_end(), reader.owed(), is_complete(&file)), (Ok(()), 0, false));
     }
 
-    assert_eq!(Reader::open(1).err(), Some(Refusal { number: Refusal::KIND, beside: 1 }));
+    assert_eq!(Reader::open(1).err(), Some(Refusal { number: Refusal::KIND, beside: 1, size: 0, absent: 0 }));
 }
 
 #[test]

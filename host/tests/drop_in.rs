@@ -3,7 +3,7 @@
 mod common;
 
 use common::files::{self, Dice};
-use common::model::{self, Kind};
+use common::model::{self, refused, Kind};
 use klovdrun::demux::ds2::{self, Ds2QpStreamDemuxer, Ds2SpStreamDemuxer};
 use klovdrun::demux::dss::{self, DssSpStreamDemuxer};
 use klovdrun::demux::{detect_format, AudioFormat};
@@ -12,7 +12,7 @@ use klovdrun::{frames, places, tally, FilePlace, Refusal, StreamPlace, FRAME};
 const FILES: u64 = 1500;
 
 fn told<T>(result: Result<T, Refusal>) -> model::Answer<T> {
-    result.map_err(|refusal| (refusal.number, refusal.beside))
+    result.map_err(|Refusal { number, beside, size, absent }| [number, beside, size, absent])
 }
 
 fn bytes(packets: &[model::Packet]) -> Vec<Vec<u8>> {
@@ -65,8 +65,8 @@ fn whole_dss() {
     for_each(10_000, files::any, |file, _| {
         let expected = match model::kind(file) {
             Ok((Kind::DssSp, start)) => Ok(bytes(&model::packets(file, Kind::DssSp, start))),
-            Err(refusal) if refusal.0 == 1 || file[1..4] == *b"dss" => Err(refusal),
-            _ => Err((1, 0)),
+            Err(refusal) if refusal[0] == 1 || file[1..4] == *b"dss" => Err(refusal),
+            _ => Err(refused(1, 0)),
         };
         assert_eq!(told(dss::demux_dss(file)), expected.map(|packets| (packets.clone(), packets.len())));
     });
@@ -96,7 +96,7 @@ fn model_ds2(file: &[u8]) -> model::Answer<Ds2> {
     let stream = model::stream(file, start);
     let part = |place: usize, size: usize| stream[place..place + size].to_vec();
     Ok(match kind {
-        Kind::DssSp => return Err((1, 0)),
+        Kind::DssSp => return Err(refused(1, 0)),
         Kind::Ds2Sp => Ds2::Sp(bytes(&model::packets(file, kind, start)), announced),
         Kind::Qp => {
             let segment = |segment: model::Segment| ds2::Ds2QpSegment {
@@ -122,7 +122,7 @@ fn whole_ds2() {
     let mut seen = std::collections::BTreeMap::new();
     for_each(20_000, files::any, |file, _| {
         if file.get(1..4) == Some(b"dss") {
-            assert_eq!(told(ds2::demux_ds2(file)).err(), Some((1, 0)));
+            assert_eq!(told(ds2::demux_ds2(file)).err(), Some(refused(1, 0)));
             return;
         }
         let answer = told(ds2::demux_ds2(file)).map(Ds2::from);
@@ -130,7 +130,7 @@ fn whole_ds2() {
             Ok(Ds2::Sp(..)) => 100,
             Ok(Ds2::Qp(..)) => 101,
             Ok(Ds2::Qp7(..)) => 102,
-            Err(refusal) => refusal.0,
+            Err(refusal) => refusal[0],
         };
         *seen.entry(sort).or_insert(0) += 1;
         assert_eq!(answer, model_ds2(file));
@@ -141,8 +141,8 @@ fn whole_ds2() {
 /// What the frame cutter answers at its end.
 fn model_frames(file: &[u8]) -> model::Answer<Vec<Vec<u8>>> {
     match model::kind(file)? {
-        (Kind::DssSp, _) => Err((1, 0)),
-        (Kind::Ds2Sp, start) => Err((11, u64::from(model::ds2_type(file, start)))),
+        (Kind::DssSp, _) => Err(refused(1, 0)),
+        (Kind::Ds2Sp, start) => Err(refused(11, u64::from(model::ds2_type(file, start)))),
         (Kind::Qp, start) => Ok(model::qp_frames(file, start)),
         (Kind::Qp7, start) => model::qp7_records(file, start),
     }
@@ -197,7 +197,7 @@ fn fed(file: &[u8], kind: Kind, start: usize, demuxer: &mut dyn Demuxer, dice: &
         let prefix = &file[..given + piece.len()];
         if model::whole_blocks(prefix.len(), start) > model::whole_blocks(given, start) {
             if kind == Kind::Ds2Sp && model::overflows(prefix) {
-                assert_eq!(told(demuxer.push(piece)), Err((7, 12288)));
+                assert_eq!(told(demuxer.push(piece)), Err(refused(7, 12288)));
                 return;
             }
             ready = model::ready(prefix, kind, start);
@@ -207,21 +207,21 @@ fn fed(file: &[u8], kind: Kind, start: usize, demuxer: &mut dyn Demuxer, dice: &
         assert_eq!(got.len(), ready);
     }
     if (1..start).contains(&file.len()) {
-        assert_eq!(told(demuxer.finish()), Err((3, start as u64)));
-        assert_eq!(told(demuxer.finish_lenient()), Err((3, start as u64)));
+        assert_eq!(told(demuxer.finish()), Err(refused(3, start as u64)));
+        assert_eq!(told(demuxer.finish_lenient()), Err(refused(3, start as u64)));
         return;
     }
     let all = bytes(&model::packets(file, kind, start));
     let cut = file.len().saturating_sub(start) % 512;
     let strict = match (cut, all.len() - got.len()) {
         (0, 0) => Ok(Vec::new()),
-        (0, owed) => Err((14, owed as u64)),
-        (cut, _) => Err((13, cut as u64)),
+        (0, owed) => Err(refused(14, owed as u64)),
+        (cut, _) => Err(refused(13, cut as u64)),
     };
     assert_eq!(told(demuxer.finish()), strict);
     got.extend(demuxer.finish_lenient().unwrap());
     assert_eq!(got, all);
-    assert_eq!(told(demuxer.push(b"more")), Err((6, 0)));
+    assert_eq!(told(demuxer.push(b"more")), Err(refused(6, 0)));
     assert_eq!((demuxer.finish(), demuxer.finish_lenient()), (Ok(Vec::new()), Ok(Vec::new())));
 }
 
@@ -266,7 +266,7 @@ fn part(file: &[u8], stream: &[u8], dice: &mut Dice) -> bool {
     let mut scratch = [0xEE; FRAME + 1];
     let fetched = told(frames::fetch(file, StreamPlace(place), size, &mut scratch)).map(<[u8]>::to_vec);
     let good = (1..=FRAME).contains(&size) && place + size <= stream.len();
-    let expected = if good { Ok(stream[place..place + size].to_vec()) } else { Err((12, 0)) };
+    let expected = if good { Ok(stream[place..place + size].to_vec()) } else { Err(refused(12, 0)) };
     assert_eq!(fetched, expected);
     let shown = told(frames::show(file, StreamPlace(place), size, &scratch)).map(<[u8]>::to_vec);
     assert_eq!(shown, expected);

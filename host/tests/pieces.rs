@@ -45,6 +45,11 @@ impl Recording {
     }
 }
 
+/// What a refused call of a reader answers: nothing of a record.
+fn refused(number: u64, beside: usize) -> Result<(), Refusal> {
+    Err(Refusal { number, beside: beside as u64, size: 0, absent: 0 })
+}
+
 /// Makes a reader's call with a room of so many packets, and adds what it hands out. Past that nothing may be written.
 fn call<C>(got: &mut Packets, room: usize, call: C) -> Result<usize, Refusal>
 where
@@ -62,7 +67,7 @@ where
 /// Gives a piece with no room; if it needs some, with one packet's too little, and then with what it needs.
 fn give(reader: &mut Reader, piece: &[u8], got: &mut Packets) -> Result<(), Refusal> {
     let mut answer = call(got, 0, |out, counts| reader.piece(piece, out, counts));
-    if let Err(Refusal { number: 8, beside }) = answer {
+    if let Err(Refusal { number: 8, beside, size: 0, absent: 0 }) = answer {
         let needed = beside as usize;
         let owed = reader.owed();
         assert_eq!(call(got, needed - 1, |out, counts| reader.piece(piece, out, counts)), answer);
@@ -92,7 +97,7 @@ fn give_all(recording: &Recording, reader: &mut Reader, got: &mut Packets, dice:
         // Between two edges of blocks the model and the tally answer what they did.
         let edge = model::whole_blocks(prefix.len(), recording.start) > model::whole_blocks(given, recording.start);
         if edge && !recording.dss && model::overflows(prefix) {
-            assert_eq!((answer, reader.owed()), (Err(Refusal { number: 7, beside: 12288 }), before));
+            assert_eq!((answer, reader.owed()), (refused(7, 12288), before));
             return false;
         }
         assert_eq!(answer, Ok(()));
@@ -110,8 +115,8 @@ fn end(recording: &Recording, reader: &mut Reader, got: &mut Packets, dice: &mut
     let owed = reader.owed();
     let expected = match (cut, owed) {
         (0, 0) => Ok(()),
-        (0, _) => Err(Refusal { number: 14, beside: owed as u64 }),
-        _ => Err(Refusal { number: 13, beside: cut as u64 }),
+        (0, _) => refused(14, owed),
+        _ => refused(13, cut),
     };
     assert_eq!(reader.clone().strict_end(), expected);
     assert_eq!(reader.strict_end(), expected);
@@ -133,8 +138,7 @@ fn pieces_against_whole(dss: bool) -> [usize; 3] {
         if !give_all(&recording, &mut reader, &mut got, &mut dice) {
             seen[2] += 1;
         } else if recording.file.len() < recording.start {
-            let beside = recording.start as u64;
-            let expected = if recording.file.is_empty() { Ok(()) } else { Err(Refusal { number: 3, beside }) };
+            let expected = if recording.file.is_empty() { Ok(()) } else { refused(3, recording.start) };
             assert_eq!(reader.strict_end(), expected);
             seen[2] += 1;
         } else {

@@ -1,30 +1,31 @@
-// Every refusal by its number and the number beside it; that lent memory is as it was, and that a refused reader goes
-// on as if the call had not been made. It rests on the table of refusals in docs/FORMAT.md.
+// Every refusal by all its numbers; that lent memory is as it was, and that a refused reader goes on as if the call had not been
+// made. It rests on the table of refusals in docs/FORMAT.md, and on the model for how much of a record is missing.
 mod common;
 
 use common::files::{header, recording, Dice};
+use common::model::{self, refused, Refused};
 use klovdrun::demux::ds2::{self, Ds2QpStreamDemuxer, Ds2SpStreamDemuxer};
 use klovdrun::demux::dss::{self, DssSpStreamDemuxer};
 use klovdrun::{frames, places, tally, Reader, Refusal, StreamPlace, FRAME, LIMIT, QP7_WORDS, QP_WORDS};
 use std::collections::BTreeSet;
 
-/// The number of a refusal and the number beside it.
-fn told<T>(answer: Result<T, Refusal>) -> (u64, u64) {
-    answer.err().map_or((0, 0), |refusal| (refusal.number, refusal.beside))
+/// All numbers of a refusal; zeros where there is none.
+fn told<T>(answer: Result<T, Refusal>) -> Refused {
+    answer.err().map_or([0; 4], |Refusal { number, beside, size, absent }| [number, beside, size, absent])
 }
 
 /// Makes a call with lent bytes and words, and answers its refusal. If it is refused, not one of them may have changed.
-fn unwritten<T>(call: impl FnOnce(&mut [u8], &mut [u8], &mut [u32], &mut [u32]) -> Result<T, Refusal>) -> (u64, u64) {
+fn unwritten<T>(call: impl FnOnce(&mut [u8], &mut [u8], &mut [u32], &mut [u32]) -> Result<T, Refusal>) -> Refused {
     let (mut out, mut counts, mut records, mut segments) = ([0xA5; 420], [0xA5; 10], [0xA5A5; 8], [0xA5A5; 3 * QP_WORDS]);
     let refusal = told(call(&mut out, &mut counts, &mut records, &mut segments));
     let bytes = out.iter().chain(&counts).all(|&byte| byte == 0xA5);
     let words = records.iter().chain(&segments).all(|&word| word == 0xA5A5);
-    assert!(refusal.0 == 0 || bytes && words);
+    assert!(refusal[0] == 0 || bytes && words);
     refusal
 }
 
 /// What the whole calls answer of a file: DSS; SP, QP and QP7 of DS2; fetch and show, a payload, and the tally.
-fn whole(file: &[u8]) -> [(u64, u64); 8] {
+fn whole(file: &[u8]) -> [Refused; 8] {
     [
         unwritten(|out, counts, _, _| dss::demux_dss_into(file, out, counts)),
         unwritten(|out, counts, _, _| ds2::demux_ds2_sp_into(file, out, counts)),
@@ -50,10 +51,10 @@ fn blocks(magic: &[u8; 4], start: usize, headers: &[[u8; 6]]) -> Vec<u8> {
 
 /// Makes a call that is refused, and answers the refusal. The reader and a copy made before are then fed and ended alike, and must
 /// answer the same.
-fn unmoved(reader: &mut Reader, call: impl FnOnce(&mut Reader, &mut [u8], &mut [u8]) -> Result<usize, Refusal>) -> (u64, u64) {
+fn unmoved(reader: &mut Reader, call: impl FnOnce(&mut Reader, &mut [u8], &mut [u8]) -> Result<usize, Refusal>) -> Refused {
     let twin = reader.clone();
     let refusal = unwritten(|out, counts, _, _| call(reader, out, counts));
-    assert_ne!(refusal.0, 0);
+    assert_ne!(refusal[0], 0);
     assert_eq!(reader.owed(), twin.owed());
     assert_eq!(later(reader.clone()), later(twin));
     refusal
@@ -89,22 +90,23 @@ fn fed(kind: u64, bytes: &[u8]) -> Reader {
 #[test]
 fn one_not_a_magic_of_the_call() {
     for file in [&b""[..], b"\x01ds", b"\x02ds", b"\x06dss", b"\x02ds2", b"\x03enc", &zeros(b"RIFF", 5000)] {
-        assert_eq!(whole(file), [(1, 0); 8]);
-        assert_eq!(told(dss::demux_dss(file)), (1, 0));
-        assert_eq!(told(ds2::demux_ds2(file)), (1, 0));
+        assert_eq!(whole(file), [refused(1, 0); 8]);
+        assert_eq!(told(dss::demux_dss(file)), refused(1, 0));
+        assert_eq!(told(ds2::demux_ds2(file)), refused(1, 0));
     }
-    assert_eq!(whole(&zeros(b"\x02dss", 2048))[1..6], [(1, 0); 5]);
-    assert_eq!(whole(&zeros(b"\x03ds2", 2048))[0], (1, 0));
-    assert_eq!(told(Ds2QpStreamDemuxer::new().finish()), (1, 0));
+    assert_eq!(whole(&zeros(b"\x02dss", 2048))[1..6], [refused(1, 0); 5]);
+    assert_eq!(whole(&zeros(b"\x03ds2", 2048))[0], refused(1, 0));
+    assert_eq!(told(Ds2QpStreamDemuxer::new().finish()), refused(1, 0));
 }
 
 #[test]
 fn two_over_the_limit() {
-    const OVER: (u64, u64) = (2, 268_435_456);
+    const OVER: Refused = refused(2, 268_435_456);
+    const OTHER: Refused = refused(1, 0);
     let mut file = zeros(b"\x02dss", LIMIT + 1);
-    assert_eq!(whole(&file), [OVER, (1, 0), (1, 0), (1, 0), (1, 0), (1, 0), OVER, OVER]);
+    assert_eq!(whole(&file), [OVER, OTHER, OTHER, OTHER, OTHER, OTHER, OVER, OVER]);
     file[..4].copy_from_slice(b"\x01ds2");
-    assert_eq!(whole(&file), [(1, 0), OVER, OVER, OVER, OVER, OVER, OVER, OVER]);
+    assert_eq!(whole(&file), [OTHER, OVER, OVER, OVER, OVER, OVER, OVER, OVER]);
     assert_eq!(unmoved(&mut fed(0, &[]), |reader, out, counts| reader.piece(&file, out, counts)), OVER);
     let mut reader = fed(3, &file[..2000]);
     assert_eq!(unmoved(&mut reader, |reader, out, counts| reader.piece(&file[..LIMIT - 1999], out, counts)), OVER);
@@ -119,8 +121,8 @@ fn two_over_the_limit() {
 fn three_inside_the_header() {
     for (magic, start) in [(b"\x02dss", 1024), (b"\x03dss", 1536), (b"\x01ds2", 1536), (b"\x03ds2", 1536), (b"\x07ds2", 4096)] {
         let answers = whole(&zeros(magic, start - 1));
-        let cut = (3, start as u64);
-        assert!(answers.iter().all(|&answer| answer == cut || answer == (1, 0)));
+        let cut = refused(3, start as u64);
+        assert!(answers.iter().all(|&answer| answer == cut || answer == refused(1, 0)));
         assert_eq!((answers[6], answers[7]), (cut, cut));
         assert_eq!(answers[if magic[3] == b's' { 0 } else { 3 }], cut);
         assert_eq!(tally(&zeros(magic, start)).map(|tally| tally.blocks), Ok(0));
@@ -128,8 +130,8 @@ fn three_inside_the_header() {
     for (kind, start) in [(0, 1536), (2, 1024), (3, 1536)] {
         for length in [1, start - 1] {
             let mut reader = fed(kind, &vec![0; length]);
-            assert_eq!(unmoved(&mut reader, |reader, _, _| reader.strict_end().map(|()| 0)), (3, start as u64));
-            assert_eq!(unmoved(&mut reader, Reader::lenient_end), (3, start as u64));
+            assert_eq!(unmoved(&mut reader, |reader, _, _| reader.strict_end().map(|()| 0)), refused(3, start as u64));
+            assert_eq!(unmoved(&mut reader, Reader::lenient_end), refused(3, start as u64));
         }
         assert_eq!(fed(kind, &[]).strict_end(), Ok(()));
     }
@@ -137,7 +139,7 @@ fn three_inside_the_header() {
 
 #[test]
 fn four_and_five_qp7_records() {
-    for (first, refusal) in [(3, (5, 504)), (4, (4, 506))] {
+    for (first, refusal) in [(3, [5, 504, 56, 54]), (4, [4, 506, 0, 2])] {
         let mut file = blocks(b"\x01ds2", 1536, &[header(0x0F, first, 10, 7)]);
         file[1542..].fill(0xFF);
         assert_eq!(whole(&file)[3], refusal);
@@ -149,6 +151,39 @@ fn four_and_five_qp7_records() {
     }
 }
 
+/// What a refusal of a record of that size says fits the stream's end; every number in it is even but its own.
+fn hold_missing([number, place, size, absent]: Refused, record: u64, end: u64) {
+    match number {
+        4 => assert_eq!((place, size, absent), (end, 0, 2)),
+        5 => assert_eq!((place + size, size), (end + absent, record)),
+        _ => panic!("refused by {number}"),
+    }
+    assert!(absent >= 2 && absent % 2 == 0 && place % 2 == 0, "{absent} at {place}");
+}
+
+#[test]
+fn four_and_five_how_much_is_missing() {
+    let mut seen = BTreeSet::new();
+    // one block or two alike, all of whose records are short, or long, with every byte 1 and every count
+    for (number, second, record) in [(1, 0x7F, 12), (1, 0xFF, 56), (2, 0x7F, 12), (2, 0xFF, 56)] {
+        let mut file = blocks(b"\x01ds2", 1536, &vec![header(0x0F, 0, 0, 7); number]);
+        file[1536..].chunks_mut(512).for_each(|block| block[6..].fill(second));
+        for (first, count) in (0..=255).flat_map(|first| (1..=255).map(move |count| (first, count))) {
+            file[1536..].chunks_mut(512).for_each(|block| block[1..3].copy_from_slice(&[first, count]));
+            let expected = model::qp7(&file, 1536).err().unwrap_or([0; 4]);
+            assert_eq!(told(tally(&file)), expected, "{number} blocks of {count} records from {first} on");
+            if expected != [0; 4] {
+                // no room is looked at before
+                assert_eq!(told(ds2::demux_ds2_qp7_into(&file, &mut [], &mut [])), expected);
+                hold_missing(expected, record, 506 * number as u64);
+                seen.insert((expected[0], expected[2], expected[3]));
+            }
+        }
+    }
+    // nothing of a record is there; all but 2 to 10 bytes of a short one; all but 2 to 54 of a long one
+    assert_eq!(seen.len(), 1 + 5 + 27, "{seen:?}");
+}
+
 #[test]
 fn six_after_the_end_or_while_draining() {
     let file = blocks(b"\x01ds2", 1536, &[header(0x0F, 3, 20, 0)]);
@@ -156,14 +191,14 @@ fn six_after_the_end_or_while_draining() {
     assert_eq!(draining.owed(), 8);
     assert_eq!(draining.lenient_end(&mut [0; 42], &mut [0]), Ok(1));
     for piece in [&b""[..], b"more", &file] {
-        assert_eq!(unmoved(&mut draining, |reader, out, counts| reader.piece(piece, out, counts)), (6, 0));
+        assert_eq!(unmoved(&mut draining, |reader, out, counts| reader.piece(piece, out, counts)), refused(6, 0));
     }
-    assert_eq!(unmoved(&mut draining, |reader, _, _| reader.strict_end().map(|()| 0)), (6, 0));
+    assert_eq!(unmoved(&mut draining, |reader, _, _| reader.strict_end().map(|()| 0)), refused(6, 0));
     assert_eq!(draining.lenient_end(&mut [0; 420], &mut [0; 10]), Ok(7));
     let mut ended = fed(2, &[]);
     ended.strict_end().unwrap();
     for mut reader in [draining, ended] {
-        assert_eq!(unmoved(&mut reader, |reader, out, counts| reader.piece(b"", out, counts)), (6, 0));
+        assert_eq!(unmoved(&mut reader, |reader, out, counts| reader.piece(b"", out, counts)), refused(6, 0));
         assert_eq!((reader.strict_end(), reader.lenient_end(&mut [], &mut [])), (Ok(()), Ok(0)));
     }
 }
@@ -172,10 +207,10 @@ fn six_after_the_end_or_while_draining() {
 fn seven_the_hold_is_full() {
     let file = blocks(b"\x01ds2", 1536, &[header(0x0F, 3, 0, 0); 25]);
     let mut reader = fed(0, &file[..file.len() - 1]);
-    assert_eq!(unmoved(&mut reader, |reader, out, counts| reader.piece(&file[file.len() - 1..], out, counts)), (7, 12288));
-    assert_eq!(unmoved(&mut fed(0, &[]), |reader, out, counts| reader.piece(&file, out, counts)), (7, 12288));
+    assert_eq!(unmoved(&mut reader, |reader, out, counts| reader.piece(&file[file.len() - 1..], out, counts)), refused(7, 12288));
+    assert_eq!(unmoved(&mut fed(0, &[]), |reader, out, counts| reader.piece(&file, out, counts)), refused(7, 12288));
     let mut demuxer = Ds2SpStreamDemuxer::new();
-    assert_eq!(told(demuxer.push(&file)), (7, 12288));
+    assert_eq!(told(demuxer.push(&file)), refused(7, 12288));
     assert_eq!(demuxer.push(&file[..2048]), Ok(Vec::new()));
 }
 
@@ -183,28 +218,28 @@ fn seven_the_hold_is_full() {
 fn eight_too_little_room() {
     let heads = [header(0x0F, 3, 11, 0), header(0x8F, 3, 2, 0)];
     let (dss, sp) = (blocks(b"\x02dss", 1024, &heads), blocks(b"\x01ds2", 1536, &heads));
-    assert_eq!((whole(&dss)[0], whole(&sp)[1]), ((8, 13), (8, 13)));
+    assert_eq!((whole(&dss)[0], whole(&sp)[1]), (refused(8, 13), refused(8, 13)));
     let (mut out, mut counts) = ([0xA5; 42 * 13], [0xA5; 13]);
-    assert_eq!(told(dss::demux_dss_into(&dss, &mut out[1..], &mut counts)), (8, 13));
-    assert_eq!(told(ds2::demux_ds2_sp_into(&sp, &mut out, &mut counts[1..])), (8, 13));
+    assert_eq!(told(dss::demux_dss_into(&dss, &mut out[1..], &mut counts)), refused(8, 13));
+    assert_eq!(told(ds2::demux_ds2_sp_into(&sp, &mut out, &mut counts[1..])), refused(8, 13));
     assert!(out.iter().chain(&counts).all(|&byte| byte == 0xA5));
     assert_eq!(ds2::demux_ds2_sp_into(&sp, &mut out, &mut counts), Ok(13));
     for (kind, file, needed) in [(0, &sp, 13), (2, &dss, 13)] {
         let answer = unmoved(&mut fed(kind, &file[..700]), |reader, out, counts| reader.piece(&file[700..], out, counts));
-        assert_eq!(answer, (8, needed));
+        assert_eq!(answer, refused(8, needed));
     }
     let qp7 = blocks(b"\x01ds2", 1536, &[header(0x0F, 3, 9, 7)]);
-    assert_eq!(whole(&qp7)[3], (8, 9));
+    assert_eq!(whole(&qp7)[3], refused(8, 9));
 }
 
 #[test]
 fn nine_too_small_a_table() {
     let heads = |kind| [header(0x0F, 3, 1, kind), header(0x0F, 9, 0, kind), header(0x0F, 3, 1, kind), header(0x0F, 3, 0, kind)];
     let qp = blocks(b"\x01ds2", 1536, &heads(6).repeat(2));
-    assert_eq!(whole(&qp)[2], (9, 4));
+    assert_eq!(whole(&qp)[2], refused(9, 4));
     let qp7 = blocks(b"\x01ds2", 1536, &heads(7));
     let mut segments = [0xA5; 2 * QP7_WORDS - 1];
-    assert_eq!(told(ds2::demux_ds2_qp7_into(&qp7, &mut [0; 2], &mut segments)), (9, 2));
+    assert_eq!(told(ds2::demux_ds2_qp7_into(&qp7, &mut [0; 2], &mut segments)), refused(9, 2));
     assert!(segments.iter().all(|&word| word == 0xA5));
     assert_eq!(ds2::demux_ds2_qp7_into(&qp7, &mut [0; 2], &mut [0; 2 * QP7_WORDS]), Ok((2, 2)));
 }
@@ -212,14 +247,14 @@ fn nine_too_small_a_table() {
 #[test]
 fn ten_no_such_kind() {
     for kind in [1, 4, 7, 255, 256, 1 << 32, u64::MAX] {
-        assert_eq!(told(Reader::open(kind)), (10, kind));
+        assert_eq!(told(Reader::open(kind)), refused(10, kind));
     }
     for version in [0, 1, 4, 255] {
         let mut demuxer = DssSpStreamDemuxer::new(version);
         for _ in 0..2 {
-            assert_eq!(told(demuxer.push(b"\x02dss")), (10, u64::from(version)));
-            assert_eq!(told(demuxer.finish()), (10, u64::from(version)));
-            assert_eq!(told(demuxer.finish_lenient()), (10, u64::from(version)));
+            assert_eq!(told(demuxer.push(b"\x02dss")), refused(10, u64::from(version)));
+            assert_eq!(told(demuxer.finish()), refused(10, u64::from(version)));
+            assert_eq!(told(demuxer.finish_lenient()), refused(10, u64::from(version)));
         }
     }
 }
@@ -229,11 +264,11 @@ fn eleven_another_kind_of_ds2() {
     for (kind, refusing) in [(3, &[2, 3][..]), (6, &[1, 3]), (7, &[1, 2]), (255, &[1, 3])] {
         let file = blocks(b"\x01ds2", 1536, &[header(0x0F, 3, 0, 9), header(0x0F, 3, 1, kind)]);
         for &call in refusing {
-            assert_eq!(whole(&file)[call], (11, u64::from(kind)));
+            assert_eq!(whole(&file)[call], refused(11, u64::from(kind)));
         }
         let mut demuxer = Ds2QpStreamDemuxer::new();
         demuxer.push(&file).unwrap();
-        assert_eq!(told(demuxer.finish()), if kind == 3 { (11, 3) } else { (0, 0) });
+        assert_eq!(told(demuxer.finish()), if kind == 3 { refused(11, 3) } else { [0; 4] });
     }
 }
 
@@ -243,12 +278,12 @@ fn twelve_no_such_part() {
     let past = [(957, 56, 56), (1012, 1, 56), (usize::MAX, 2, 56)];
     for (place, size, room) in [(0, 0, 56), (0, 57, 99), (480, 56, 55), (0, 1, 0)].into_iter().chain(past) {
         let place = StreamPlace(place);
-        assert_eq!(unwritten(|scratch, _, _, _| frames::fetch(&file, place, size, &mut scratch[..room]).map(|_| ())), (12, 0));
-        assert_eq!(told(frames::show(&file, place, size, &[0; 99][..room])), (12, 0));
+        assert_eq!(unwritten(|scratch, _, _, _| frames::fetch(&file, place, size, &mut scratch[..room]).map(|_| ())), refused(12, 0));
+        assert_eq!(told(frames::show(&file, place, size, &[0; 99][..room])), refused(12, 0));
     }
     assert_eq!(frames::fetch(&file, StreamPlace(956), 56, &mut [0; FRAME]).map(<[u8]>::len), Ok(56));
-    assert_eq!((told(places::payload(&file, 2)), told(places::payload(&file, usize::MAX))), ((12, 0), (12, 0)));
-    assert_eq!(told(places::payload(&blocks(b"\x03dss", 1536, &[]), 0)), (12, 0));
+    assert_eq!((told(places::payload(&file, 2)), told(places::payload(&file, usize::MAX))), (refused(12, 0), refused(12, 0)));
+    assert_eq!(told(places::payload(&blocks(b"\x03dss", 1536, &[]), 0)), refused(12, 0));
     assert_eq!(places::payload(&file, 1), Ok(&file[2054..]));
 }
 
@@ -257,7 +292,7 @@ fn thirteen_and_fourteen_the_strict_end() {
     let heads = [header(0x8F, 2, 20, 0), header(0x0F, 3, 4, 0)];
     for (kind, start, magic, owed) in [(0, 1536, b"\x01ds2", 8), (3, 1536, b"\x03dss", 20), (2, 1024, b"\x02dss", 20)] {
         let file = blocks(magic, start, &heads);
-        for (after, refusal) in [(513, (13, 1)), (1023, (13, 511)), (512, (14, owed)), (7, (13, 7))] {
+        for (after, refusal) in [(513, refused(13, 1)), (1023, refused(13, 511)), (512, refused(14, owed)), (7, refused(13, 7))] {
             let mut reader = fed(kind, &file[..start + after]);
             assert_eq!(unmoved(&mut reader, |reader, _, _| reader.strict_end().map(|()| 0)), refusal);
             assert_eq!(reader.owed(), if after >= 512 { owed as usize } else { 0 });
@@ -269,10 +304,18 @@ fn thirteen_and_fourteen_the_strict_end() {
 fn every_refusal_has_a_sentence_of_its_own() {
     // those with a number beside them that tells something, those without, and one that there is not
     let (telling, others) = ([2, 3, 4, 5, 7, 8, 9, 10, 11, 13, 14, 16, 17], [1, 6, 12, 15, u64::MAX]);
-    let sentences: BTreeSet<String> = telling.iter().chain(&others).map(|&number| Refusal { number, beside: 0 }.to_string()).collect();
+    let sentence = |number, beside, size, absent| Refusal { number, beside, size, absent }.to_string();
+    let sentences: BTreeSet<String> = telling.iter().chain(&others).map(|&number| sentence(number, 0, 0, 0)).collect();
     assert_eq!(sentences.len(), telling.len() + others.len());
     for number in telling {
-        let error: Box<dyn std::error::Error> = Box::new(Refusal { number, beside: 98_765 });
+        let error: Box<dyn std::error::Error> = Box::new(Refusal { number, beside: 98_765, size: 0, absent: 0 });
         assert!(error.to_string().contains("98765"), "{number}");
     }
+    // size and absent stand in the sentences of a record, and in no other
+    for number in telling.into_iter().chain(others) {
+        let told = sentence(number, 0, 43_210, 1_357);
+        assert_eq!((told.contains("43210"), told.contains("1357")), (number == 5, number == 4 || number == 5), "{number}");
+    }
+    assert_eq!(sentence(5, 504, 56, 54), "a record of 56 bytes at place 504 of the payload stream: 54 bytes are missing");
+    assert_eq!(sentence(4, 506, 0, 2), "a record should begin at place 506 of the payload stream: 2 of its first two bytes are missing");
 }

@@ -3,7 +3,7 @@
 mod common;
 
 use common::files::{self, Dice};
-use common::model;
+use common::model::{self, refused};
 use klovdrun::demux::{ds2, AudioFormat};
 use klovdrun::mux::{ds2_sp_file_size, write_ds2_sp, write_ds2_sp_into};
 use klovdrun::{tally, Packets, Reader, Refusal, Tally, BLOCK, DS2_START, LIMIT, PACKET};
@@ -13,7 +13,7 @@ const FILES: u64 = 150;
 const MOST: usize = 6_470_444;
 
 fn told<T>(answer: Result<T, Refusal>) -> model::Answer<T> {
-    answer.map_err(|refusal| (refusal.number, refusal.beside))
+    answer.map_err(|Refusal { number, beside, size, absent }| [number, beside, size, absent])
 }
 
 /// Writes into a room of so many bytes. What is not of the file, all of it after a refusal, has to be as it was.
@@ -68,7 +68,7 @@ fn hold_file(header: &[u8], packets: &[u8], dice: &mut Dice) {
         assert_eq!(write_in(header, packets, size + more), Ok(file.clone()));
     }
     for room in [0, 1, 1535, size - 512, size - 1] {
-        assert_eq!(write_in(header, packets, room), Err((8, size as u64)));
+        assert_eq!(write_in(header, packets, room), Err(refused(8, size as u64)));
     }
     hold_readings(&file, packets, dice);
     assert_eq!(write_ds2_sp(header, packets), Ok(file));
@@ -156,7 +156,7 @@ fn fifteen_the_header() {
         let mut header = good.clone();
         header.resize(length, 0);
         for room in [0, 9999] {
-            assert_eq!(write_in(&header, &packets, room), Err((15, 0)));
+            assert_eq!(write_in(&header, &packets, room), Err(refused(15, 0)));
         }
     }
     for first in 0..=255 {
@@ -166,7 +166,7 @@ fn fifteen_the_header() {
             header[1..4].copy_from_slice(rest);
             let taken = rest == b"ds2" && (first == 1 || first == 3);
             let answer = write_in(&header, &packets, 2560);
-            assert_eq!(answer.map(|file| file[..1536] == header[..]), if taken { Ok(true) } else { Err((15, 0)) });
+            assert_eq!(answer.map(|file| file[..1536] == header[..]), if taken { Ok(true) } else { Err(refused(15, 0)) });
         }
     }
 }
@@ -184,16 +184,16 @@ fn sixteen_a_packet() {
         let mut changed = packets.clone();
         changed[place] = dice.pick(&[1, 2, 0x80, 0xFF]);
         let answer = write_in(&header, &changed, 9999);
-        assert_eq!(answer.err(), if place % 42 == 40 { Some((16, place as u64 / 42)) } else { None });
+        assert_eq!(answer.err(), if place % 42 == 40 { Some(refused(16, place as u64 / 42)) } else { None });
     }
     // the first of them is told, and a cut one is the last
     let mut changed = packets;
     changed[42 * 9 + 40] = 7;
-    assert_eq!(write_in(&header, &changed[..42 * 13 + 1], 0), Err((16, 9)));
+    assert_eq!(write_in(&header, &changed[..42 * 13 + 1], 0), Err(refused(16, 9)));
     changed[42 * 4 + 40] = 7;
-    assert_eq!(write_in(&header, &changed[..42 * 13 + 41], 9999), Err((16, 4)));
-    assert_eq!(write_in(&header, &changed[..42 * 4 + 41], 9999), Err((16, 4)));
-    assert_eq!(write_in(&header, &changed[..42 * 3 + 41], 9999), Err((16, 3)));
+    assert_eq!(write_in(&header, &changed[..42 * 13 + 41], 9999), Err(refused(16, 4)));
+    assert_eq!(write_in(&header, &changed[..42 * 4 + 41], 9999), Err(refused(16, 4)));
+    assert_eq!(write_in(&header, &changed[..42 * 3 + 41], 9999), Err(refused(16, 3)));
 }
 
 #[test]
@@ -201,12 +201,12 @@ fn what_holds_first_is_told() {
     let dice = &mut Dice::new(1);
     let (header, mut packets) = (files::ds2_header(7, dice), files::packets(3, dice));
     packets[82] = 1;
-    assert_eq!(write_in(&header, &packets, 0), Err((15, 0)));
-    assert_eq!(write_in(&files::ds2_header(1, dice), &packets, 0), Err((16, 1)));
+    assert_eq!(write_in(&header, &packets, 0), Err(refused(15, 0)));
+    assert_eq!(write_in(&files::ds2_header(1, dice), &packets, 0), Err(refused(16, 1)));
     packets[82] = 0;
-    assert_eq!(write_in(&files::ds2_header(1, dice), &packets, 0), Err((8, 2048)));
-    assert_eq!(told(write_ds2_sp(&header, &[])), Err((15, 0)));
-    assert_eq!(told(ds2_sp_file_size(&header, &[])), Err((15, 0)));
+    assert_eq!(write_in(&files::ds2_header(1, dice), &packets, 0), Err(refused(8, 2048)));
+    assert_eq!(told(write_ds2_sp(&header, &[])), Err(refused(15, 0)));
+    assert_eq!(told(ds2_sp_file_size(&header, &[])), Err(refused(15, 0)));
 }
 
 /// Sets one of many packets, that were zeros.
@@ -221,15 +221,15 @@ fn seventeen_and_the_longest_file() {
     let mut packets = vec![0; PACKET * (MOST + 1)];
     let limit = LIMIT as u64;
     for room in [0, 4096] {
-        assert_eq!(write_in(&header, &packets, room), Err((17, limit)));
+        assert_eq!(write_in(&header, &packets, room), Err(refused(17, limit)));
     }
-    assert_eq!(told(ds2_sp_file_size(&header, &packets)), Err((17, limit)));
+    assert_eq!(told(ds2_sp_file_size(&header, &packets)), Err(refused(17, limit)));
     // what comes before it
-    assert_eq!(write_in(&header, &packets[..PACKET * (MOST + 1) - 1], 4096), Err((16, MOST as u64)));
+    assert_eq!(write_in(&header, &packets[..PACKET * (MOST + 1) - 1], 4096), Err(refused(16, MOST as u64)));
     packets[PACKET * MOST + 40] = 1;
-    assert_eq!(write_in(&header, &packets, 4096), Err((16, MOST as u64)));
+    assert_eq!(write_in(&header, &packets, 4096), Err(refused(16, MOST as u64)));
     header[0] = 7;
-    assert_eq!(write_in(&header, &packets, 4096), Err((15, 0)));
+    assert_eq!(write_in(&header, &packets, 4096), Err(refused(15, 0)));
 
     header[0] = 3;
     packets.truncate(PACKET * MOST);
@@ -238,7 +238,7 @@ fn seventeen_and_the_longest_file() {
     }
     assert_eq!(ds2_sp_file_size(&header, &packets), Ok(LIMIT));
     let mut out = vec![0; LIMIT];
-    assert_eq!(told(write_ds2_sp_into(&header, &packets, &mut out[..LIMIT - 1])), Err((8, limit)));
+    assert_eq!(told(write_ds2_sp_into(&header, &packets, &mut out[..LIMIT - 1])), Err(refused(8, limit)));
     assert!(out[..4096].iter().chain(&out[LIMIT - 4096..]).all(|&byte| byte == 0));
     assert_eq!(write_ds2_sp_into(&header, &packets, &mut out), Ok(LIMIT));
     let told = tally(&out).unwrap();

@@ -8,6 +8,7 @@ use native.Mathlib.Omega.{arith}
 use lib.ListN.{length}
 use Rattle.tables.proofs.Cases.{never}
 use Rattle.refusals.specs.declared.Refusal.{Refusal}
+use Rattle.refusals.specs.Numbers.{recordRefusals}
 use Rattle.refusals.specs.Said.{Said, answers, refusal, isAmong, Numbered}
 use Rattle.whole.specs.Payload.{payloadPlace}
 use Rattle.sp.specs.Readings.{Reading, dssReading, ds2Reading}
@@ -36,8 +37,8 @@ use Rattle.reader.proofs.Total.{refused-piece-keeps, refused-strict-keeps, refu
 use Rattle.numbers.specs.declared.Answer.{Answer}
 use Rattle.klovdrun.specs.declared.Opened.{Opened}
 use Rattle.numbers.specs.declared.Tallied.{Tallied}
-use Rattle.numbers.specs.Numbers.{four, numbersOr, oneNumber, qpNumbers, qp7Numbers, whereNumber, placeNumber, standNumbers, owingNumbers, tallyNumbers}
-use Rattle.klovdrun.specs.Wrapped.{SpCarries, QpCarries, Qp7Carries, FillCarries, WriteCarries, stepTo, OpenCarries, Advances, Tells}
+use Rattle.numbers.specs.Numbers.{numbersOr, oneNumber, qpNumbers, qp7Numbers, whereNumber, placeNumber, standNumbers, owingNumbers, tallyNumbers}
+use Rattle.klovdrun.specs.Wrapped.{SpCarries, QpCarries, Qp7Carries, FillCarries, WriteCarries, stepTo, OpenCarries, Advances, Tells, ofTally}
 use Rattle.klovdrun.specs.Refusals.{payloadRefusals, dssRefusals, ds2Refusals, qpRefusals, qp7Refusals, fetchRefusals, openRefusals, pieceRefusals, strictRefusals, lenientRefusals, writeRefusals}
 use Rattle.klovdrun.proofs.Refusing.{payload-numbered, dss-numbered, ds2-numbered, packets-numbered, segments-numbered, records-numbered, fetch-numbered, open-numbered, piece-numbered, strict-numbered, lenient-numbered, write-numbered}
 
@@ -49,15 +50,29 @@ tells first second other (answers a) above-zero is {r} e =
       zero = λ z. (a, refl, ap (λ (x : Answer). x .beside) e, ap (λ (x : Answer). x .first) e, ap (λ (x : Answer). x .second) e);
       above = λ some. absurd (omega (arith, none));
       listed = λ some. absurd (omega (arith, none));
+      nothing-absent = λ other. (ap (λ (x : Answer). x .size) e, ap (λ (x : Answer). x .absent) e);
     }
 tells {numbers = numbers} first second other (refusal why) above-zero is {r} e =
     let number : r .refusal ≡ why .number = ap (λ (x : Answer). x .refusal) e in
+    let size : r .size ≡ why .size = ap (λ (x : Answer). x .size) e in
+    let absent : r .absent ≡ why .absent = ap (λ (x : Answer). x .absent) e in
     let there = subst (λ (n : ℕ). isAmong numbers n ≡ true) (sym number) (is .among why refl) in
     record {
       zero = λ z. absurd (never (subst (λ (n : ℕ). isAmong numbers n ≡ true) z there) above-zero);
-      above = λ some.
-          (why, refl, number, ap (λ (x : Answer). x .beside) e, ap (λ (x : Answer). x .first) e, ap (λ (x : Answer). x .second) e);
+      above = λ some. (
+        why,
+        refl,
+        number,
+        ap (λ (x : Answer). x .beside) e,
+        ap (λ (x : Answer). x .first) e,
+        ap (λ (x : Answer). x .second) e,
+        size,
+        absent,
+      );
       listed = λ some. there;
+      nothing-absent = λ other.
+          let none = is .nothing-absent why refl (subst (λ (n : ℕ). isAmong recordRefusals n ≡ false) number other) in
+          (size ∙ none .0, absent ∙ none .1);
     }
 
 -- a number above 0 is a refusal's
@@ -79,17 +94,16 @@ pub klov-show-tells : (f : List ℕ) (q size room : ℕ) {r : Answer} → r ≡ 
 unfolding isAmong
 klov-show-tells f q size room e = tells whereNumber placeNumber 0 (standing (fetchFrom f q size room) q size) refl (fetch-numbered f q size room) e
 
--- `klov_tally`: the same of four of its nine numbers; that all nine are the tally's is its contract
+-- `klov_tally`: the same of six of its eleven numbers; that all are the tally's is its contract
 pub klov-tally-tells : (f : List ℕ) {r : Tallied} → r ≡ tallyNumbers (tallied f)
-    → Tells tallyRefusals (λ figures. figures .announced) (λ figures. figures .out .many) 0 (tallied f)
-    (four (r .refusal) (r .beside) (r .announced) (r .handed))
+    → Tells tallyRefusals (λ figures. figures .announced) (λ figures. figures .out .many) 0 (tallied f) (ofTally r)
 unfolding isAmong
-klov-tally-tells f {r} e = tells (λ figures. figures .announced) (λ figures. figures .out .many) 0 (tallied f) refl (refused-by f) (as-four (tallied f) e)
+klov-tally-tells f {r} e = tells (λ figures. figures .announced) (λ figures. figures .out .many) 0 (tallied f) refl (refused-by f) (as-answer (tallied f) e)
   where
-    as-four : (said : Said Figures) → r ≡ tallyNumbers said → four (r .refusal) (r .beside) (r .announced) (r .handed)
-        ≡ numbersOr (λ figures. figures .announced) (λ figures. figures .out .many) 0 said
-    as-four (answers figures) p = ap (λ (x : Tallied). four (x .refusal) (x .beside) (x .announced) (x .handed)) p
-    as-four (refusal why) p = ap (λ (x : Tallied). four (x .refusal) (x .beside) (x .announced) (x .handed)) p
+    as-answer : (said : Said Figures) → r ≡ tallyNumbers said
+        → ofTally r ≡ numbersOr (λ figures. figures .announced) (λ figures. figures .out .many) 0 said
+    as-answer (answers figures) p = ap ofTally p
+    as-answer (refusal why) p = ap ofTally p
 
 -- `klov_demux_dss` and `klov_demux_ds2_sp`
 module _ {reading : Said Reading} {out out′ counts counts′ : List ℕ} {r : Answer} (c : SpCarries reading out out′ counts counts′ r) where

@@ -8,8 +8,9 @@ use native.Mathlib.Omega.{arith}
 use lib.ListN.{length, take, length-take, length-append}
 use Rattle.tables.proofs.Cases.{by-order, never}
 use Rattle.blocks.specs.Places.{limit}
-use Rattle.refusals.specs.Said.{answers}
-use Rattle.refusals.proofs.Said.{not-both, for-the-answer}
+use Rattle.refusals.specs.Numbers.{numbered}
+use Rattle.refusals.specs.Said.{answers, refusal, isAmong}
+use Rattle.refusals.proofs.Said.{not-both, by-numbers, for-the-answer}
 use Rattle.packets.specs.Packet.{readSize}
 use Rattle.sp.specs.Readings.{Reading, total, CompleteAt}
 use Rattle.sp.proofs.Theorems.{whole-exactly}
@@ -31,6 +32,7 @@ use Rattle.numbers.specs.Numbers.{tallyNumbers}
 use Rattle.klovdrun.specs.Wrapped.{WriteCarries}
 use Rattle.klovdrun.specs.Announced.{AsAnnounced}
 use Rattle.klovdrun.proofs.Theorems.{write-tells}
+use Rattle.klovdrun.proofs.Lacking.{never-lacks}
 use Rattle.klovdrun.proofs.Announced.{tallied-as}
 use Rattle.klovdrun.proofs.Fitting.{front-fits}
 
@@ -48,10 +50,14 @@ module _ {header packets out out′ : List ℕ} {r : Answer} (c : WriteCarries h
 
   -- Whatever refusal is told, its number and the one beside it say why.
   pub told-why : 0 < r .refusal → Unwritable header packets (length out) (r .refusal) (r .beside)
+  unfolding isAmong
   told-why some =
       let t = write-tells c .above some in
       let why = t .0 in
-      let said = refused-exactly header packets out out′ (c .answer) (c .comes) (why .number) (why .beside) .1 (c .comes .answer-is ∙ t .1) in
+      let none = never-lacks (write-tells c) refl refl in
+      let plain : why ≡ numbered (why .number) (why .beside) = by-numbers why refl refl (sym (t .6) ∙ none .0) (sym (t .7) ∙ none .1) in
+      let said = refused-exactly header packets out out′ (c .answer) (c .comes) (why .number) (why .beside) .1
+      (c .comes .answer-is ∙ t .1 ∙ ap refusal plain) in
       subst (λ (number : ℕ). Unwritable header packets (length out) number (r .beside)) (sym (t .2))
       (subst (λ (beside : ℕ). Unwritable header packets (length out) (why .number) beside) (sym (t .3)) said)
 

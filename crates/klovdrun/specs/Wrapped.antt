@@ -3,8 +3,9 @@
 use Prim.Native.Nat.{ℕ, _<_}
 use mathlib.Core.Path.{_≡_}
 use mathlib.Core.List.{List}
-use mathlib.Core.Bool.{true}
+use mathlib.Core.Bool.{true, false}
 use Rattle.refusals.specs.declared.Refusal.{Refusal}
+use Rattle.refusals.specs.Numbers.{lacking, recordRefusals}
 use Rattle.refusals.specs.Said.{Said, answers, refusal, isAmong}
 use Rattle.sp.specs.declared.Demuxed.{Demuxed}
 use Rattle.sp.specs.Readings.{Reading}
@@ -20,6 +21,7 @@ use Rattle.reader.specs.declared.Step.{Step}
 use Rattle.reader.specs.Calls.{Opens}
 use Rattle.reader.specs.History.{OwedCall}
 use Rattle.numbers.specs.declared.Answer.{Answer}
+use Rattle.numbers.specs.declared.Tallied.{Tallied}
 use Rattle.klovdrun.specs.declared.Opened.{Opened}
 use Rattle.numbers.specs.Numbers.{oneNumber, qpNumbers, qp7Numbers, standNumbers, owingNumbers}
 
@@ -65,9 +67,21 @@ pub record Advances (call : Step → Type 0) (stored : Reader) (r : Answer) : Ty
   pub owed-is : OwedCall stored (r .second)
 
 -- r tells what was said. With refusal 0 the call answered, and first and second are of its answer; with another it refused by that number,
--- which is in the call's list, with that number beside it, first is 0, and second is this other number
+-- which is in the call's list, with that number beside it, that size and so many bytes absent, first is 0, and second is this other number.
+-- Unless a record is refused, size and absent are 0
 pub record Tells {A : Type 0} (numbers : List ℕ) (first second : A → ℕ) (other : ℕ) (said : Said A) (r : Answer) : Type 0 where
   pub zero : r .refusal ≡ 0 → (a : A) × (said ≡ answers a) × (r .beside ≡ 0) × (r .first ≡ first a) × (r .second ≡ second a)
   pub above : 0 < r .refusal
       → (why : Refusal) × (said ≡ refusal why) × (r .refusal ≡ why .number) × (r .beside ≡ why .beside) × (r .first ≡ 0) × (r .second ≡ other)
+      × (r .size ≡ why .size) × (r .absent ≡ why .absent)
   pub listed : 0 < r .refusal → isAmong numbers (r .refusal) ≡ true
+  pub nothing-absent : isAmong recordRefusals (r .refusal) ≡ false → (r .size ≡ 0) × (r .absent ≡ 0)
+
+-- the refusal that r tells
+abbrev pub toldBy : Answer → Refusal
+toldBy r = lacking (r .refusal) (r .beside) (r .size) (r .absent)
+
+-- what a tally tells as an answer does: its refusal, how many frames are announced and handed out, size and absent
+abbrev pub ofTally : Tallied → Answer
+ofTally r =
+    record { refusal = r .refusal; beside = r .beside; first = r .announced; second = r .handed; size = r .size; absent = r .absent }

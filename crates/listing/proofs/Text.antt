@@ -3,20 +3,24 @@
 use Prim.Native.Nat.{ℕ, _+_, _*_, _^_, _≤_, _<_}
 use mathlib.Core.Path.{_≡_, refl, sym, ap, _∙_, subst}
 use mathlib.Core.List.{List, [], _∷_, _++_}
+use mathlib.Core.Bool.{true, false}
 use native.Mathlib.Omega.{arith}
 use borrow.Author.Tests.{le-leb, lt-leb}
 use lib.ListN.{length, getD, set, length-append, length-take, List·getD-append}
 use lib.Seq.{getD-append-add}
 use Rattle.tables.specs.Lent.{Leaves}
+use Rattle.tables.proofs.Cases.{by-test}
 use Rattle.tables.proofs.Lent.{leaves-as, leaves-to, leaves-first, leaves-join, leaves-over, over-long}
 use Rattle.io.specs.Counts.{Counts}
 use Rattle.io.specs.Digits.{digits, Fewest}
-use Rattle.refusals.specs.Said.{Said, answers, refuses, refusal}
+use Rattle.refusals.specs.declared.Refusal.{Refusal}
+use Rattle.refusals.specs.Numbers.{recordRefusals}
+use Rattle.refusals.specs.Said.{Said, answers, refuses, refusal, isAmong}
 use Rattle.tally.specs.declared.FileKind.{FileKind}
 use Rattle.tally.specs.declared.FileKind.the-variants.{DssSp, Ds2Sp, Ds2Qp, Ds2Qp7}
 use Rattle.tally.specs.declared.Figures.{Figures}
 use Rattle.tally.specs.Tallies.{tallied}
-use Rattle.listing.specs.Line.{nameOf, spaced, spacedAll, lineOf, listed, listLine, Lists}
+use Rattle.listing.specs.Line.{nameOf, spaced, spacedAll, lackOf, lineOf, listed, listLine, Lists}
 use Rattle.listing.specs.Inner.{Put}
 use Rattle.listing.proofs.Decimal.{decimal-is, decimal-few}
 
@@ -42,6 +46,16 @@ pub put-more : (n : ℕ) (rest : List ℕ) {line line′ line″ : List ℕ} {at
     → Put (spacedAll rest) between line′ line″ end → Put (spacedAll (n ∷ rest)) at line line″ end
 unfolding spacedAll
 put-more n rest p q = put-join p q
+
+-- the end of a refusal's line, where a record is refused and where not
+module _ (why : Refusal) {line line′ : List ℕ} {at end : ℕ} where
+  pub put-two : isAmong recordRefusals (why .number) ≡ true → Put (spacedAll (why .size ∷ why .absent ∷ [])) at line line′ end
+      → Put (spacedAll (lackOf why)) at line line′ end
+  put-two of-record p = rw of-record p
+
+  pub put-none : isAmong recordRefusals (why .number) ≡ false → Put (spacedAll []) at line line′ end
+      → Put (spacedAll (lackOf why)) at line line′ end
+  put-none other p = rw other p
 
 -- a text from the front on is the whole line
 pub put-lists : {text line line′ : List ℕ} {end : ℕ} → Put text 0 line line′ end → Lists text line line′ end
@@ -92,12 +106,16 @@ unfolding spacedAll
 spaced-few [] = omega arith
 spaced-few (n ∷ rest) = simp length-append (omega (arith, decimal-few n, spaced-few rest))
 
+-- a refusal has at most two numbers more
+lack-few : (why : Refusal) → length (lackOf why) ≤ 2
+lack-few why = by-test (isAmong recordRefusals (why .number)) (λ e. simp e (omega arith)) (λ e. simp e (omega arith))
+
 -- a line has at most 133 bytes
 said-few : (said : Said Figures) → length (lineOf said) ≤ 133
 said-few (answers t) =
     let numbers : List ℕ = t .start .0 ∷ t .blocks ∷ t .announced ∷ t .out .many ∷ t .out .short ∷ t .out .bytes ∷ [] in
     simp length-append (omega (arith, name-few (t .kind), spaced-few numbers))
-said-few (refusal why) = omega (arith, spaced-few (why .number ∷ why .beside ∷ []))
+said-few (refusal why) = omega (arith, spaced-few (why .number ∷ why .beside ∷ lackOf why), lack-few why)
 
 -- longer input is refused before any other check, and other input is tallied
 pub too-long : (f : List ℕ) → 65536 < length f → listed f ≡ refuses 2 65536

@@ -1,23 +1,28 @@
 -- What holds of `list_line` for every file and every buffer, beyond the contract or drawn from it. Each statement stands under a sentence
 -- that says it; the laws that carry them are in the files beside this one. Assumes nothing.
-use Prim.Native.Nat.{ℕ, _<_}
+use Prim.Native.Nat.{ℕ, _≤_, _<_}
 use mathlib.Core.Path.{_≡_, refl, sym, ap, _∙_}
 use mathlib.Core.List.{List, [], _∷_, _++_}
+use mathlib.Core.Logic.{_⊎_, ⊎-elim}
+use borrow.Author.Tests.{ne-eqb}
 use denote.Ref.{now}
 use lib.ListN.{length}
 use Rattle.tables.specs.Settled.{SettledAs}
-use Rattle.refusals.specs.Said.{answers}
+use Rattle.refusals.specs.declared.Refusal.{Refusal}
+use Rattle.refusals.specs.Numbers.{lacking}
+use Rattle.refusals.specs.Said.{answers, refusal, isAmong}
 use Rattle.tally.specs.declared.FileKind.the-variants.{Ds2Qp}
+use Rattle.tally.specs.Tallies.{tallied}
 use Rattle.listing.specs.Decimal.{decimalIn}
 use Rattle.listing.specs.Line.{refusedWord, spacedAll, lineOf, listLine, Lists}
-use Rattle.listing.proofs.Text.{too-long}
+use Rattle.listing.proofs.Text.{too-long, short-enough}
 use Rattle.listing.proofs.list_line.Kinds as list-line
 use Rattle.listing.proofs.list_line.Reads as list-line-reads
 
 -- Of a file of more than 65,536 bytes the line is `refused 2 65536`, whatever the file holds.
 pub longer-is-refused : (f : List ℕ) → 65536 < length f
     → listLine f ≡ refusedWord ++ (32 ∷ 50 ∷ 32 ∷ 54 ∷ 53 ∷ 53 ∷ 51 ∷ 54 ∷ 10 ∷ [])
-unfolding listLine spacedAll decimalIn
+unfolding listLine spacedAll decimalIn isAmong
 longer-is-refused f h = ap lineOf (too-long f h)
 
 -- The figures of the format's own example have the line that stands there: `DS2QP 1536 1 12 10 1 506`.
@@ -26,6 +31,29 @@ pub example-line : lineOf
     ≡ 68 ∷ 83 ∷ 50 ∷ 81 ∷ 80 ∷ 32 ∷ 49 ∷ 53 ∷ 51 ∷ 54 ∷ 32 ∷ 49 ∷ 32 ∷ 49 ∷ 50 ∷ 32 ∷ 49 ∷ 48 ∷ 32 ∷ 49 ∷ 32 ∷ 53 ∷ 48 ∷ 54 ∷ 10 ∷ []
 unfolding spacedAll decimalIn
 example-line = refl
+
+-- And those of a record that is cut, and of one that is not there: `refused 5 504 56 54` and `refused 4 506 0 2`.
+pub example-refusals : (lineOf (refusal (lacking 5 504 56 54))
+    ≡ refusedWord ++ (32 ∷ 53 ∷ 32 ∷ 53 ∷ 48 ∷ 52 ∷ 32 ∷ 53 ∷ 54 ∷ 32 ∷ 53 ∷ 52 ∷ 10 ∷ []))
+    × (lineOf (refusal (lacking 4 506 0 2)) ≡ refusedWord ++ (32 ∷ 52 ∷ 32 ∷ 53 ∷ 48 ∷ 54 ∷ 32 ∷ 48 ∷ 32 ∷ 50 ∷ 10 ∷ []))
+unfolding spacedAll decimalIn isAmong
+example-refusals = (refl, refl)
+
+-- The line of a file that the tally refuses by 4 or 5 has four numbers: the refusal's, the place, the record's size and the bytes that are
+-- absent. By any other the line has two: the refusal's and the one beside it.
+module _ (f : List ℕ) (few : length f ≤ 65536) (why : Refusal) (e : tallied f ≡ refusal why) where
+  listed-so : listLine f ≡ lineOf (refusal why)
+  unfolding listLine
+  listed-so = ap lineOf (short-enough f few ∙ e)
+
+  pub record-line : (why .number ≡ 4) ⊎ (why .number ≡ 5)
+      → listLine f ≡ refusedWord ++ spacedAll (why .number ∷ why .beside ∷ why .size ∷ why .absent ∷ [])
+  unfolding isAmong
+  record-line of-record = ⊎-elim (λ four. listed-so ∙ rw four) (λ five. listed-so ∙ rw five) of-record
+
+  pub other-line : (why .number ≡ 4 → ⊥) → (why .number ≡ 5 → ⊥) → listLine f ≡ refusedWord ++ spacedAll (why .number ∷ why .beside ∷ [])
+  unfolding isAmong
+  other-line four five = listed-so ∙ simp (ne-eqb 4 (why .number) (λ is. four (sym is)), ne-eqb 5 (why .number) (λ is. five (sym is)))
 
 -- what a call answers and leaves
 abbrev Seen : Type 0

@@ -3,11 +3,13 @@
 use Prim.Native.Nat.{ℕ}
 use mathlib.Core.Path.{_≡_}
 use mathlib.Core.List.{List, [], _∷_, _++_}
+use mathlib.Core.Bool.{cond}
 use lib.ListN.{length}
 use lib.Dec.{leb}
 use Rattle.tables.specs.Entries.{fronted}
 use Rattle.refusals.specs.declared.Refusal.{Refusal}
-use Rattle.refusals.specs.Said.{Said, answers, refusal, demand}
+use Rattle.refusals.specs.Numbers.{recordRefusals}
+use Rattle.refusals.specs.Said.{Said, answers, refusal, demand, isAmong}
 use Rattle.tally.specs.declared.FileKind.{FileKind}
 use Rattle.tally.specs.declared.FileKind.the-variants.{DssSp, Ds2Sp, Ds2Qp, Ds2Qp7}
 use Rattle.tally.specs.declared.Figures.{Figures}
@@ -39,9 +41,12 @@ tallyLine t =
     nameOf (t .kind)
     ++ spacedAll (t .start .0 ∷ t .blocks ∷ t .announced ∷ t .out .many ∷ t .out .short ∷ t .out .bytes ∷ [])
 
--- refused, its number, the number beside it
+-- refused, its number, the number beside it; and of a record that cannot be read its size, and how many bytes are absent
+abbrev pub lackOf : Refusal → List ℕ
+lackOf why = cond (isAmong recordRefusals (why .number)) (why .size ∷ why .absent ∷ []) []
+
 abbrev pub refusedLine : Refusal → List ℕ
-refusedLine why = refusedWord ++ spacedAll (why .number ∷ why .beside ∷ [])
+refusedLine why = refusedWord ++ spacedAll (why .number ∷ why .beside ∷ lackOf why)
 
 abbrev pub lineOf : Said Figures → List ℕ
 lineOf (answers t) = tallyLine t

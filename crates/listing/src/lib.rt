@@ -8,7 +8,9 @@ ghost use mathlib.Core.Path.{_≡_};
 ghost use Prim.Native.Nat.{_+_, _≤_};
 ghost use lib.ListN.{length};
 ghost use Rattle.io.specs.Counts.{Counts};
-ghost use Rattle.listing.specs.Line.{nameOf, spaced, tallyLine, refusedLine, listLine, Lists};
+ghost use Rattle.refusals.specs.Numbers.{recordRefusals};
+ghost use Rattle.refusals.specs.Said.{isAmong};
+ghost use Rattle.listing.specs.Line.{nameOf, spaced, spacedAll, tallyLine, lackOf, refusedLine, listLine, Lists};
 ghost use Rattle.listing.specs.Inner.{Put};
 
 // The most bytes that `list` takes.
@@ -70,6 +72,29 @@ fn put_figures(figures: Figures, line: &mut [u8]) -> usize
     put_text(b"\n", at, line)
 }
 
+// Whether a refusal of this number is of a record that cannot be read.
+fn is_of_record(number: u64) -> bool
+    ensures { λ r. ⌜ r ≡ isAmong recordRefusals number ⌝ }
+{
+    if number == 4 {
+        return true;
+    }
+    number == 5
+}
+
+// The end of a refusal's line: of a record that cannot be read its size, and how many bytes are absent, before the line's end.
+fn put_lack(why: Refusal, from: usize, line: &mut [u8]) -> usize
+    requires { ⌜ from + 43 ≤ length (now line) ⌝ }
+    ensures { λ r. ⌜ Put (spacedAll (lackOf why)) from (now (line .entry)) (now (line .exit)) r ⌝ }
+{
+    if !is_of_record(why.number) {
+        return put_text(b"\n", from, line);
+    }
+    let mut at = put_number(why.size, from, line);
+    at = put_number(why.absent, at, line);
+    put_text(b"\n", at, line)
+}
+
 // The line of a refusal.
 fn put_refusal(why: Refusal, line: &mut [u8]) -> usize
     requires { ⌜ length (now line) ≡ 133 ⌝ }
@@ -78,7 +103,7 @@ fn put_refusal(why: Refusal, line: &mut [u8]) -> usize
     let mut at = put_text(b"refused", 0, line);
     at = put_number(why.number, at, line);
     at = put_number(why.beside, at, line);
-    put_text(b"\n", at, line)
+    put_lack(why, at, line)
 }
 
 // Puts the line for a file at the front of the buffer, and answers how long it is.

@@ -1,7 +1,8 @@
--- The numbers that cross the boundary to C: what a call of the crates below says, as four numbers or nine. A refusal is its number and the
--- number beside it; an answer has refusal 0, and what a call does not name is 0. Assumes nothing.
+-- The numbers that cross the boundary to C: what a call of the crates below says, as six numbers or eleven. A refusal is its number, the
+-- number beside it, size and absent; an answer has refusal 0, and what a call does not name is 0. Assumes nothing.
 use Prim.Native.Nat.{ℕ}
 use mathlib.Core.Bool.{Bool, cond}
+use Rattle.refusals.specs.declared.Refusal.{Refusal}
 use Rattle.refusals.specs.Said.{Said, answers, refusal}
 use Rattle.detect.specs.declared.AudioFormat.{AudioFormat}
 use Rattle.detect.specs.declared.AudioFormat.the-variants.{None, DssSp, Ds2Sp, Ds2Qp, Ds2Qp7, GrundigSp}
@@ -28,15 +29,18 @@ formatNumber GrundigSp = 5
 abbrev pub truthNumber : Bool → ℕ
 truthNumber truth = cond truth 1 0
 
--- four numbers
-abbrev pub four : ℕ → ℕ → ℕ → ℕ → Answer
-four number beside first second =
-    record { refusal = number; beside = beside; first = first; second = second }
+-- an answer by its two numbers, and a refusal with a second number
+abbrev pub answering : ℕ → ℕ → Answer
+answering first second = record { refusal = 0; beside = 0; first = first; second = second; size = 0; absent = 0 }
+
+abbrev pub refusing : Refusal → ℕ → Answer
+refusing why second =
+    record { refusal = why .number; beside = why .beside; first = 0; second = second; size = why .size; absent = why .absent }
 
 -- what a call says, by the two numbers of an answer and the second number of a refusal
 abbrev pub numbersOr : {A : Type 0} → (A → ℕ) → (A → ℕ) → ℕ → Said A → Answer
-numbersOr first second other (answers a) = four 0 0 (first a) (second a)
-numbersOr first second other (refusal why) = four (why .number) (why .beside) 0 other
+numbersOr first second other (answers a) = answering (first a) (second a)
+numbersOr first second other (refusal why) = refusing why other
 
 -- of most calls that is 0
 abbrev pub numbers : {A : Type 0} → (A → ℕ) → (A → ℕ) → Said A → Answer
@@ -56,7 +60,7 @@ qp7Numbers said = numbers (λ totals. totals .records) (λ totals. totals .segme
 
 -- a frame's place in the payload stream, and its size
 abbrev pub foundNumbers : Found → Answer
-foundNumbers found = four 0 0 (found .place .0) (found .size)
+foundNumbers found = answering (found .place .0) (found .size)
 
 -- 0 and a file place, or 1 for the scratch's start
 abbrev pub whereNumber : Stand → ℕ
@@ -74,7 +78,7 @@ standNumbers said = numbers whereNumber placeNumber said
 abbrev pub owingNumbers : ℕ → Said ℕ → Answer
 owingNumbers owed said = numbersOr (λ n. n) (λ n. owed) owed said
 
--- a tally's nine numbers
+-- a tally's eleven numbers
 abbrev pub kindNumber : FileKind → ℕ
 kindNumber kinds.DssSp = 0
 kindNumber kinds.Ds2Sp = 1
@@ -93,6 +97,8 @@ tallyNumbers (answers figures) =
       handed = figures .out .many;
       «short_count» = figures .out .short;
       bytes = figures .out .bytes;
+      size = 0;
+      absent = 0;
     }
 tallyNumbers (refusal why) =
     record {
@@ -105,4 +111,6 @@ tallyNumbers (refusal why) =
       handed = 0;
       «short_count» = 0;
       bytes = 0;
+      size = why .size;
+      absent = why .absent;
     }

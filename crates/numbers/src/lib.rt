@@ -20,18 +20,21 @@ ghost use Rattle.tally.specs.Tallies.{talliedSays};
 ghost use Rattle.writing.specs.Outcome.{writtenSays};
 ghost use Rattle.reader.specs.State.{Reached};
 ghost use Rattle.reader.specs.History.{OwedCall};
-ghost use Rattle.numbers.specs.Numbers.{formatNumber, truthNumber, four, oneNumber, qpNumbers, qp7Numbers, foundNumbers, standNumbers, owingNumbers, kindNumber, tallyNumbers};
+ghost use Rattle.numbers.specs.Numbers.{formatNumber, truthNumber, answering, refusing, oneNumber, qpNumbers, qp7Numbers, foundNumbers, standNumbers, owingNumbers, kindNumber, tallyNumbers};
 
-// What most exports answer: a refusal's number, or 0, and the number beside it; then two numbers that the export names.
+// What most exports answer: a refusal's number, or 0, and the number beside it; two numbers that the export names; and of a record that cannot
+// be read its size, and how many bytes are absent, which are 0 in every other answer.
 #[repr(C)]
 pub struct Answer {
     pub refusal: u64,
     pub beside: u64,
     pub first: u64,
     pub second: u64,
+    pub size: u64,
+    pub absent: u64,
 }
 
-// The tally's nine numbers. `short` is a word of C's own, so it is `short_count`.
+// The tally's nine numbers, then size and absent as in an answer. `short` is a word of C's own, so it is `short_count`.
 #[repr(C)]
 pub struct Tallied {
     pub refusal: u64,
@@ -43,6 +46,8 @@ pub struct Tallied {
     pub handed: u64,
     pub short_count: u64,
     pub bytes: u64,
+    pub size: u64,
+    pub absent: u64,
 }
 
 pub fn of_format(format: AudioFormat) -> u8
@@ -66,25 +71,29 @@ pub fn of_truth(truth: bool) -> u8
 
 // An answer's two numbers, with no refusal.
 fn answered(first: usize, second: usize) -> Answer
-    ensures { λ r. ⌜ r ≡ four 0 0 first second ⌝ }
+    ensures { λ r. ⌜ r ≡ answering first second ⌝ }
 {
     Answer {
         refusal: 0,
         beside: 0,
         first: first as u64,
         second: second as u64,
+        size: 0,
+        absent: 0,
     }
 }
 
 // A refusal, with the second number that goes with it.
 fn refused(why: Refusal, second: usize) -> Answer
-    ensures { λ r. ⌜ r ≡ four (why .number) (why .beside) 0 second ⌝ }
+    ensures { λ r. ⌜ r ≡ refusing why second ⌝ }
 {
     Answer {
         refusal: why.number,
         beside: why.beside,
         first: 0,
         second: second as u64,
+        size: why.size,
+        absent: why.absent,
     }
 }
 
@@ -192,6 +201,8 @@ fn counted(figures: Figures) -> Tallied
         handed: out.many as u64,
         short_count: out.short as u64,
         bytes: out.bytes,
+        size: 0,
+        absent: 0,
     }
 }
 
@@ -208,6 +219,8 @@ fn not_counted(why: Refusal) -> Tallied
         handed: 0,
         short_count: 0,
         bytes: 0,
+        size: why.size,
+        absent: why.absent,
     }
 }
 

@@ -1,6 +1,7 @@
--- What the walk keeps: a fact of what was gathered that no step breaks holds at the end. And how many records it has gathered.
+-- What the walk keeps: a fact of what was gathered that no step breaks holds at the end, and where a record is refused. And how many records
+-- it has gathered.
 -- Assumes nothing.
-use Prim.Native.Nat.{ℕ, zero, suc, _+_, _*_}
+use Prim.Native.Nat.{ℕ, zero, suc, _+_, _*_, _≤_, _<_}
 use mathlib.Core.Path.{_≡_, refl, sym, ap, _∙_}
 use mathlib.Core.List.{List, [], _∷_}
 use native.Mathlib.Omega.{arith}
@@ -8,8 +9,9 @@ use lib.ListN.{length, length-append}
 use Rattle.tables.proofs.Cases.{by-equal}
 use Rattle.blocks.specs.Places.{streamAt}
 use Rattle.blocks.specs.Headers.{firstOf, countOf, announcedIn}
-use Rattle.refusals.specs.Said.{answers, onward}
-use Rattle.refusals.proofs.Said.{went-on, for-the-answer}
+use Rattle.refusals.specs.declared.Refusal.{Refusal}
+use Rattle.refusals.specs.Said.{answers, onward, refusal}
+use Rattle.refusals.proofs.Said.{not-both, by-onward, went-on, for-the-answer}
 use Rattle.whole.specs.declared.Recording.{Recording}
 use Rattle.detect.specs.declared.Kind.the-variants.{Qp7}
 use Rattle.whole.specs.Admissions.{announcedBy, ds2Admission}
@@ -21,31 +23,58 @@ use Rattle.qp7.proofs.Reading.{reads-keep}
 use Rattle.qp7.proofs.Blockwise.{silent-is, announcing-is}
 use Rattle.qp7.proofs.Gathering.{gathered-from}
 
--- P holds at first, and every step keeps it
-pub record Kept (s : ℕ → ℕ) (long : ℕ) (P : Gathered → Type 0) : Type 0 where
+-- P holds at first, and every step over n blocks keeps it: a record, a silent block's end, a block's start, a segment that is closed
+pub record Kept (f : List ℕ) (a n : ℕ) (P : Gathered → Type 0) : Type 0 where
   pub at-first : P nothing
-  pub by-a-record : (g : Gathered) (size : ℕ) → recordAt s long (g .place) ≡ answers size → P g → P (noted size g)
-  pub by-raising : (q : ℕ) (g : Gathered) → P g → P (raised q g)
+  pub by-a-record : (g : Gathered) (size : ℕ) → recordAt (streamAt f a n) (506 * n) (g .place) ≡ answers size → P g → P (noted size g)
+  pub by-an-end : (b : ℕ) → b < n → (g : Gathered) → P g → P (raised (506 * (b + 1)) g)
+  pub by-a-start : (b : ℕ) → b < n → (g : Gathered) → P g → P (raised (framesStart b (firstOf f a b)) g)
   pub by-closing : (g : Gathered) → P g → P (closing g)
 
--- a block keeps it
-block-keeps-it : {P : Gathered → Type 0} (f : List ℕ) (a n b : ℕ) → Kept (streamAt f a n) (506 * n) P → (g g′ : Gathered)
-    → withBlock f a n b g ≡ answers g′ → P g → P g′
-block-keeps-it {P} f a n b kept g g′ e p =
-    by-equal (countOf f a b) 0
-    (λ none. for-the-answer P (sym (silent-is f a n b g none) ∙ e) (kept .by-raising (506 * (b + 1)) (closing g) (kept .by-closing g p)))
-    (λ some.
-    reads-keep {P = P} (streamAt f a n) (506 * n) (kept .by-a-record) (countOf f a b) (raised (framesStart b (firstOf f a b)) g) g′
-    (sym (announcing-is f a n b g some) ∙ e) (kept .by-raising (framesStart b (firstOf f a b)) g p))
+module _ {P : Gathered → Type 0} (f : List ℕ) (a n : ℕ) (kept : Kept f a n P) where
+  -- a block keeps it
+  block-keeps-it : (b : ℕ) → b < n → (g g′ : Gathered) → withBlock f a n b g ≡ answers g′ → P g → P g′
+  block-keeps-it b h g g′ e p =
+      by-equal (countOf f a b) 0
+      (λ none. for-the-answer P (sym (silent-is f a n b g none) ∙ e) (kept .by-an-end b h (closing g) (kept .by-closing g p)))
+      (λ some.
+      reads-keep {P = P} (streamAt f a n) (506 * n) (kept .by-a-record) (countOf f a b) (raised (framesStart b (firstOf f a b)) g) g′
+      (sym (announcing-is f a n b g some) ∙ e) (kept .by-a-start b h g p))
 
--- and so does the walk
-pub walk-keeps-it : {P : Gathered → Type 0} (f : List ℕ) (a n b : ℕ) → Kept (streamAt f a n) (506 * n) P → (g : Gathered)
-    → gatheredTo f a n b ≡ answers g → P g
-unfolding gatheredTo
-walk-keeps-it {P} f a n zero kept g e = for-the-answer P e (kept .at-first)
-walk-keeps-it {P} f a n (suc b) kept g e =
-    let w = went-on (gatheredTo f a n b) (withBlock f a n b) e in
-    block-keeps-it {P = P} f a n b kept (w .0) g (w .2) (walk-keeps-it {P = P} f a n b kept (w .0) (w .1))
+  -- and so does the walk
+  pub walk-keeps-it : (b : ℕ) → b ≤ n → (g : Gathered) → gatheredTo f a n b ≡ answers g → P g
+  unfolding gatheredTo
+  walk-keeps-it zero h g e = for-the-answer P e (kept .at-first)
+  walk-keeps-it (suc b) h g e =
+      let w = went-on (gatheredTo f a n b) (withBlock f a n b) e in
+      block-keeps-it b (omega arith) (w .0) g (w .2) (walk-keeps-it b (omega arith) (w .0) (w .1))
+
+  -- where it holds, a record is refused so
+  abbrev Stopped : Refusal → Type 0
+  Stopped why = (g : Gathered) × P g × (recordAt (streamAt f a n) (506 * n) (g .place) ≡ refusal why)
+
+  -- records that are refused stop at one of them
+  reads-stop : (m : ℕ) (g : Gathered) {why : Refusal} → reads (streamAt f a n) (506 * n) m g ≡ refusal why → P g → Stopped why
+  unfolding reads
+  reads-stop zero g e p = absurd (not-both (sym e))
+  reads-stop (suc m) g e p =
+      by-onward (recordAt (streamAt f a n) (506 * n) (g .place)) _ e (λ here. (g, p, here))
+      (λ size found rest. reads-stop m (noted size g) rest (kept .by-a-record g size found p))
+
+  -- and so does a block, and the walk
+  block-stops : (b : ℕ) → b < n → (g : Gathered) {why : Refusal} → withBlock f a n b g ≡ refusal why → P g → Stopped why
+  block-stops b h g e p =
+      by-equal (countOf f a b) 0 (λ none. absurd (not-both (sym e ∙ silent-is f a n b g none)))
+      (λ some.
+      reads-stop (countOf f a b) (raised (framesStart b (firstOf f a b)) g) (sym (announcing-is f a n b g some) ∙ e)
+      (kept .by-a-start b h g p))
+
+  pub walk-stops : (b : ℕ) → b ≤ n → {why : Refusal} → gatheredTo f a n b ≡ refusal why → Stopped why
+  unfolding gatheredTo
+  walk-stops zero h e = absurd (not-both (sym e))
+  walk-stops (suc b) h e =
+      by-onward (gatheredTo f a n b) (withBlock f a n b) e (λ before. walk-stops b (omega arith) before)
+      (λ g came here. block-stops b (omega arith) g here (walk-keeps-it b (omega arith) g came))
 
 -- n records more
 reads-many : (s : ℕ → ℕ) (long n : ℕ) (g g′ : Gathered) → reads s long n g ≡ answers g′ → length (g′ .records) ≡ length (g .records) + n

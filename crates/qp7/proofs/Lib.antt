@@ -11,4 +11,5 @@ pub mod Lying
 pub mod Shares
 pub mod Words
 pub mod Refusing
+pub mod Lacking
 pub mod Theorems

@@ -72,20 +72,27 @@ module _ (s : ℕ → ℕ) (long : ℕ) where
           let last : i ≡ length (g .records) = omega (arith, many) in
           ap (λ (k : ℕ). getD (g .records ++ (g .place ∷ [])) k 0) last ∙ getD-append-seam (g .records) (g .place) [] 0
 
-  -- no step breaks that
-  lying-kept : Kept s long (Lie s long)
-  lying-kept =
-      record {
-        at-first =
-            record {
-              inside = λ i h. absurd (not-suc-le-zero h);
-              behind = λ i h. absurd (not-suc-le-zero h);
-              apart = λ i j h l. absurd (not-suc-le-zero l);
-            };
-        by-a-record = lie-more;
-        by-raising = λ q g lie. lie-as g (raised q g) refl (omega arith) lie;
-        by-closing = λ g lie. lie-as g (closing g) (closing-records g) (omega (arith, closing-place g)) lie;
-      }
+  -- a read place that is raised
+  lie-raised : (q : ℕ) (g : Gathered) → Lie s long g → Lie s long (raised q g)
+  lie-raised q g lie = lie-as g (raised q g) refl (omega arith) lie
+
+-- no step breaks that
+lying-kept : (f : List ℕ) (a n : ℕ) → Kept f a n (Lie (streamAt f a n) (506 * n))
+lying-kept f a n =
+    let s = streamAt f a n in
+    let long = 506 * n in
+    record {
+      at-first =
+          record {
+            inside = λ i h. absurd (not-suc-le-zero h);
+            behind = λ i h. absurd (not-suc-le-zero h);
+            apart = λ i j h l. absurd (not-suc-le-zero l);
+          };
+      by-a-record = lie-more s long;
+      by-an-end = λ b h g lie. lie-raised s long _ g lie;
+      by-a-start = λ b h g lie. lie-raised s long _ g lie;
+      by-closing = λ g lie. lie-as g (closing g) (closing-records g) (omega (arith, closing-place g)) lie;
+    }
 
 -- so of what a whole file gathers
 pub gathered-lie : (f : List ℕ) (g : Gathered) → qp7Reading f ≡ answers g → (rec : Recording) → ds2Admission f Qp7 ≡ answers rec
@@ -94,6 +101,6 @@ gathered-lie f g e rec taken =
     let a = rec .start .0 in
     let n = rec .blocks in
     let h = before-the-end f rec g (gathered-by f rec g taken e) in
-    let kept = lying-kept (streamAt f a n) (506 * n) in
+    let kept = lying-kept f a n in
     subst (Lie (streamAt f a n) (506 * n)) (h .2)
-    (kept .by-closing (h .0) (walk-keeps-it {P = Lie (streamAt f a n) (506 * n)} f a n n kept (h .0) (h .1)))
+    (kept .by-closing (h .0) (walk-keeps-it {P = Lie (streamAt f a n) (506 * n)} f a n kept n (omega arith) (h .0) (h .1)))

@@ -1,6 +1,6 @@
 -- A record's size by its second byte, and the ways of finding a record at a place: refusals 4 and 5, or the record.
 -- Assumes nothing.
-use Prim.Native.Nat.{ℕ, _+_, _≤_, _<_}
+use Prim.Native.Nat.{ℕ, _+_, _%_, _≤_, _<_}
 use mathlib.Core.Path.{_≡_, sym, ap, _∙_}
 use mathlib.Core.Bool.{true, false}
 use native.Mathlib.Omega.{arith}
@@ -9,11 +9,12 @@ use lib.Dec.{leb}
 use Rattle.tables.proofs.Cases.{by-order}
 use Rattle.blocks.specs.Headers.{flagOf}
 use Rattle.refusals.specs.declared.Refusal.{Refusal}
-use Rattle.refusals.specs.Said.{Said, answers, refuses, refusal}
-use Rattle.refusals.proofs.Said.{passed, not-both}
+use Rattle.refusals.specs.Numbers.{lacking}
+use Rattle.refusals.specs.Said.{Said, answers, refusal}
+use Rattle.refusals.proofs.Said.{passed-by, not-both}
 use Rattle.qp7.specs.declared.Record.{Record}
 use Rattle.qp7.specs.declared.Record.the-variants.{Is, Refused}
-use Rattle.qp7.specs.Records.{recordSize, recordAt, recordSays}
+use Rattle.qp7.specs.Records.{recordSize, absentOf, recordAt, recordSays}
 
 -- bit 7 is on
 pub long-size : (second : ℕ) → 128 ≤ second → recordSize second ≡ 56
@@ -33,16 +34,17 @@ size-bounds second =
 
 module _ (s : ℕ → ℕ) (long q : ℕ) where
   -- fewer than 2 bytes are left
-  pub no-selector : long < q + 2 → refuses 4 q ≡ recordAt s long q
+  pub no-selector : long < q + 2 → refusal (lacking 4 q 0 (absentOf long q 2)) ≡ recordAt s long q
   unfolding recordAt
   no-selector h = simp (lt-leb (q + 2) long h)
 
   -- the record runs past the end
-  pub runs-past : (size : ℕ) → q + 2 ≤ long → size ≡ recordSize (s (q + 1)) → long < q + size → refuses 5 q ≡ recordAt s long q
+  pub runs-past : (size : ℕ) → q + 2 ≤ long → size ≡ recordSize (s (q + 1)) → long < q + size
+      → refusal (lacking 5 q size (absentOf long q size)) ≡ recordAt s long q
   unfolding recordAt
   runs-past size l is h =
       let past : leb (q + recordSize (s (q + 1))) long ≡ false = rw (← is) (lt-leb (q + size) long h) in
-      simp (le-leb (q + 2) long l, past)
+      simp (le-leb (q + 2) long l, past) (ap (λ (n : ℕ). refusal (lacking 5 q n (absentOf long q n))) is)
 
   -- the record ends in the stream
   pub record-there : (size : ℕ) → q + 2 ≤ long → size ≡ recordSize (s (q + 1)) → q + size ≤ long → answers size ≡ recordAt s long q
@@ -55,8 +57,8 @@ module _ (s : ℕ → ℕ) (long q : ℕ) where
   pub record-found : (size : ℕ) → recordAt s long q ≡ answers size → (size ≡ recordSize (s (q + 1))) × (q + size ≤ long)
   unfolding recordAt
   record-found size e =
-      let told = passed (leb (q + 2) long) 4 q _ e in
-      let fits = passed (leb (q + recordSize (s (q + 1))) long) 5 q (answers (recordSize (s (q + 1)))) (told .1) in
+      let told = passed-by (leb (q + 2) long) _ _ e in
+      let fits = passed-by (leb (q + recordSize (s (q + 1))) long) _ (answers (recordSize (s (q + 1)))) (told .1) in
       let is : size ≡ recordSize (s (q + 1)) = cc in
       let inside : q + recordSize (s (q + 1)) ≤ long = leb-true (q + recordSize (s (q + 1))) long (fits .0) in
       (is, omega (arith, is, inside))

@@ -1,29 +1,28 @@
--- Which numbers the walk over QP7 records refuses by: 4 and 5.
+-- Which numbers the walk over QP7 records refuses by, 4 and 5, and where it then stands.
 -- Assumes nothing.
 use Prim.Native.Nat.{ℕ, zero, suc, _+_, _*_}
 use mathlib.Core.Path.{refl, sym, subst}
 use mathlib.Core.List.{List, [], _∷_}
 use lib.Dec.{leb}
-use Rattle.tables.proofs.Cases.{by-equal}
+use Rattle.tables.proofs.Cases.{by-equal, never}
 use Rattle.blocks.specs.Places.{streamAt}
 use Rattle.blocks.specs.Headers.{firstOf, countOf}
+use Rattle.refusals.specs.Numbers.{lacking, recordRefusals}
 use Rattle.refusals.specs.Said.{Said, answers, isAmong, Numbered}
-use Rattle.refusals.proofs.Numbered.{answered, asked, goes-on}
+use Rattle.refusals.proofs.Numbered.{answered, asked-by, goes-on}
 use Rattle.whole.specs.declared.Recording.{Recording}
 use Rattle.frames.specs.Start.{framesStart}
 use Rattle.qp7.specs.Records.{recordSize, recordAt}
 use Rattle.qp7.specs.Walk.{Gathered, noted, raised, closing, reads, withBlock, gatheredTo, gatheredFrom}
 use Rattle.qp7.proofs.Blockwise.{silent-is, announcing-is}
 
-abbrev pub recordRefusals : List ℕ
-recordRefusals = 4 ∷ 5 ∷ []
-
 -- one record, some, those of a block, and all
 finding : (s : ℕ → ℕ) (long q : ℕ) → Numbered recordRefusals (recordAt s long q)
 unfolding recordAt isAmong
 finding s long q =
     let size = recordSize (s (q + 1)) in
-    asked (leb (q + 2) long) 4 q refl (asked (leb (q + size) long) 5 q refl (answered size))
+    asked-by (leb (q + 2) long) _ refl (λ other. absurd (never refl other))
+    (asked-by (leb (q + size) long) _ refl (λ other. absurd (never refl other)) (answered size))
 
 reading : (s : ℕ → ℕ) (long n : ℕ) (g : Gathered) → Numbered recordRefusals (reads s long n g)
 unfolding reads

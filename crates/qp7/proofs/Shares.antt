@@ -13,7 +13,7 @@ use Rattle.tables.proofs.Table.{same-table, table-sum-more, table-sum-none}
 use Rattle.blocks.specs.Places.{streamAt}
 use Rattle.refusals.specs.Said.{answers}
 use Rattle.qp7.specs.declared.Segment.{Segment}
-use Rattle.qp7.specs.Walk.{Gathered, openSegment, closing, qp7Reading, noSegment, segmentAt, recordsBefore}
+use Rattle.qp7.specs.Walk.{Gathered, openSegment, raised, closing, qp7Reading, noSegment, segmentAt, recordsBefore}
 use Rattle.qp7.proofs.Closing.{closedAt, closing-none, closing-one}
 use Rattle.qp7.proofs.Keeping.{Kept, walk-keeps-it, before-the-end, admitted-first}
 
@@ -93,14 +93,19 @@ shared-closed g h sh =
           resets = ap (λ (y : Segment). y .reset) here;
         }
 
+-- a read place that is raised
+as-before : (q : ℕ) (g : Gathered) → Shared g → Shared (raised q g)
+as-before q g sh = record { so-many = sh .so-many; all = sh .all; each = sh .each }
+
 -- no step breaks that
-shared-kept : (s : ℕ → ℕ) (long : ℕ) → Kept s long Shared
-shared-kept s long =
+shared-kept : (f : List ℕ) (a n : ℕ) → Kept f a n Shared
+shared-kept f a n =
     record {
       at-first = record { so-many = omega arith; all = table-sum-none _; each = λ i h. absurd (not-suc-le-zero h) };
       by-a-record = λ g size e sh.
           record { so-many = omega (arith, sh .so-many, length-append (g .records) (g .place ∷ [])); all = sh .all; each = sh .each };
-      by-raising = λ q g sh. record { so-many = sh .so-many; all = sh .all; each = sh .each };
+      by-an-end = λ b h g sh. as-before _ g sh;
+      by-a-start = λ b h g sh. as-before _ g sh;
       by-closing = λ g sh.
           by-order (g .first) (length (g .records)) (λ h. subst Shared (sym (closing-one g h)) (shared-closed g h sh))
           (λ h. subst Shared (sym (closing-none g h)) sh);
@@ -120,6 +125,6 @@ gathered-shared f g e =
     let a = r .0 .start .0 in
     let n = r .0 .blocks in
     let h = before-the-end f (r .0) g (r .2) in
-    let kept = shared-kept (streamAt f a n) (506 * n) in
-    let all = walk-keeps-it {P = Shared} f a n n kept (h .0) (h .1) in
+    let kept = shared-kept f a n in
+    let all = walk-keeps-it {P = Shared} f a n kept n (omega arith) (h .0) (h .1) in
     subst (λ (x : Gathered). Shared x × (x .first ≡ length (x .records))) (h .2) (kept .by-closing (h .0) all, none-left (h .0) all)

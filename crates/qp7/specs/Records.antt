@@ -1,10 +1,13 @@
--- A QP7 record: how long it is by its second byte, and when it cannot be read.
+-- A QP7 record: how long it is by its second byte, when it cannot be read, and what is said then of the bytes that are absent.
 -- Assumes nothing.
-use Prim.Native.Nat.{ℕ, _+_}
+use Prim.Native.Nat.{ℕ, _+_, _-_, _%_, _≤_}
+use mathlib.Core.Path.{_≡_}
 use mathlib.Core.Bool.{cond}
 use lib.Dec.{leb}
 use Rattle.blocks.specs.Headers.{flagOf}
-use Rattle.refusals.specs.Said.{Said, answers, refusal, demand}
+use Rattle.refusals.specs.declared.Refusal.{Refusal}
+use Rattle.refusals.specs.Numbers.{lacking}
+use Rattle.refusals.specs.Said.{Said, answers, refusal, demandBy}
 use Rattle.qp7.specs.declared.Record.{Record}
 use Rattle.qp7.specs.declared.Record.the-variants.{Is, Refused}
 
@@ -12,12 +15,26 @@ use Rattle.qp7.specs.declared.Record.the-variants.{Is, Refused}
 unfoldable pub recordSize : ℕ → ℕ
 recordSize second = cond (flagOf second) 56 12
 
--- the size of the record at q in a stream of so many bytes: refusal 4 if fewer than 2 bytes are left there, 5 if it runs past the end,
--- each with the place
+-- of n bytes from q on, so many are past the end of a stream of `long` bytes
+abbrev pub absentOf : ℕ → ℕ → ℕ → ℕ
+absentOf long q n = n - (long - q)
+
+-- the size of the record at q in such a stream: refusal 4 if fewer than 2 bytes are left there, 5 if it runs past the end. Each has the place,
+-- the record's size, which by 4 cannot be told and is 0, and how many bytes are absent: by 4 of the first 2, by 5 of the record's
 unfoldable pub recordAt : (ℕ → ℕ) → ℕ → ℕ → Said ℕ
 recordAt s long q =
-    demand (leb (q + 2) long) 4 q
-    (demand (leb (q + recordSize (s (q + 1))) long) 5 q (answers (recordSize (s (q + 1)))))
+    demandBy (leb (q + 2) long) (lacking 4 q 0 (absentOf long q 2))
+    (demandBy (leb (q + recordSize (s (q + 1))) long) (lacking 5 q (recordSize (s (q + 1))) (absentOf long q (recordSize (s (q + 1)))))
+    (answers (recordSize (s (q + 1)))))
+
+-- what a refusal says of a stream of so many bytes. By 5: the record has that size by the byte after its place, it would end so many bytes past
+-- the stream's end, which are an even number and at least one, and two at least are there. By 4: none of the two bytes is there that would
+-- tell the size
+pub record Lacks (s : ℕ → ℕ) (long : ℕ) (why : Refusal) : Type 0 where
+  pub cut : why .number ≡ 5
+      → (why .size ≡ recordSize (s (why .beside + 1))) × (why .beside + why .size ≡ long + why .absent) × (1 ≤ why .absent)
+      × (why .absent % 2 ≡ 0) × (why .absent + 2 ≤ why .size)
+  pub untold : why .number ≡ 4 → (why .size ≡ 0) × (why .beside + 2 ≡ long + why .absent) × (why .absent ≡ 2)
 
 -- the code's answer, read so
 abbrev pub recordSays : Record → Said ℕ

@@ -83,15 +83,15 @@ fn record_at(file: &[u8], recording: Recording, at: StreamPlace) -> Record
     let start = recording.start;
     let blocks = recording.blocks;
     let place = at.0;
-    let end = PAYLOAD * blocks;
-    if end < place + 2 {
-        return Record::Refused(Refusal::selector(at));
+    let left = PAYLOAD * blocks - place;
+    if left < 2 {
+        return Record::Refused(Refusal::selector(at, 2 - left));
     }
     let next = place + 1;
     let second = blocks::stream_byte(file, start, StreamPlace(next));
     let size = size_of(second);
-    if end < place + size {
-        return Record::Refused(Refusal::record(at));
+    if left < size {
+        return Record::Refused(Refusal::record(at, size, size - left));
     }
     Record::Is(size)
 }
@@ -105,6 +105,8 @@ fn why_not(found: Record) -> Refusal
         Record::Is(_) => Refusal {
             number: 0,
             beside: 0,
+            size: 0,
+            absent: 0,
         },
     }
 }

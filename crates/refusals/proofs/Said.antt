@@ -6,8 +6,8 @@ use mathlib.Core.List.{List}
 use mathlib.Core.Bool.{Bool, true, false}
 use native.Mathlib.Omega.{arith}
 use Rattle.refusals.specs.declared.Refusal.{Refusal}
-use Rattle.refusals.specs.Numbers.{numbered}
-use Rattle.refusals.specs.Said.{Said, demand, answers, onward, refusal, refuses}
+use Rattle.refusals.specs.Numbers.{lacking, numbered}
+use Rattle.refusals.specs.Said.{Said, demand, demandBy, answers, onward, refusal, refuses}
 
 -- a call that refuses does not answer
 pub not-both : {A : Type 0} {a : A} {why : Refusal} → refusal why ≡ answers a → ⊥
@@ -18,18 +18,31 @@ pub for-the-answer : {A : Type 0} (P : A → Type 0) {a b : A} → answers a ≡
 for-the-answer {A} P {a} {b} e h = let same : a ≡ b = cc in subst P same h
 
 -- what is answered after a test has passed it
+pub passed-by : {A : Type 0} {a : A} (test : Bool) (why : Refusal) (rest : Said A) → demandBy test why rest ≡ answers a
+    → (test ≡ true) × (rest ≡ answers a)
+passed-by true why rest e = (refl, e)
+passed-by false why rest e = absurd (not-both e)
+
 pub passed : {A : Type 0} {a : A} (test : Bool) (number beside : ℕ) (rest : Said A) → demand test number beside rest ≡ answers a
     → (test ≡ true) × (rest ≡ answers a)
-passed true number beside rest e = (refl, e)
-passed false number beside rest e = absurd (not-both e)
+passed test number beside rest e = passed-by test (numbered number beside) rest e
 
--- what is refused at a test failed it, with that number and the one beside it, or is refused after it
+-- what is refused at a test failed it, with that refusal, or is refused after it
+pub by-refusal : {A X : Type 0} (test : Bool) {why other : Refusal} {rest : Said A} → demandBy test why rest ≡ refusal other
+    → (test ≡ true → rest ≡ refusal other → X) → (test ≡ false → why ≡ other → X) → X
+by-refusal true e after here = after refl e
+by-refusal false {why} {other} e after here = let same : why ≡ other = cc in here refl same
+
 pub by-demand : {A X : Type 0} (test : Bool) {number beside m n : ℕ} {rest : Said A} → demand test number beside rest ≡ refuses m n
     → (test ≡ true → rest ≡ refuses m n → X) → (test ≡ false → number ≡ m → beside ≡ n → X) → X
-by-demand true e after here = after refl e
-by-demand false {number} {beside} {m} {n} e after here =
-    let same : numbered number beside ≡ numbered m n = cc in
-    here refl (ap (λ (why : Refusal). why .number) same) (ap (λ (why : Refusal). why .beside) same)
+by-demand test e after here =
+    by-refusal test e after (λ failed same. here failed (ap (λ (why : Refusal). why .number) same) (ap (λ (why : Refusal). why .beside) same))
+
+-- a refusal by its four numbers
+pub by-numbers : (why : Refusal) {number beside size absent : ℕ} → why .number ≡ number → why .beside ≡ beside → why .size ≡ size
+    → why .absent ≡ absent → why ≡ lacking number beside size absent
+by-numbers why {number} {beside} {size} {absent} a b c d =
+    let same : lacking (why .number) (why .beside) (why .size) (why .absent) ≡ lacking number beside size absent = cc (a, b, c, d) in same
 
 -- a call answers or refuses: what a proof by cases goes by
 pub by-said : {A X : Type 0} (said : Said A) → ((a : A) → said ≡ answers a → X)
@@ -62,6 +75,12 @@ asked-of (refusal why) test number beside a e = absurd (not-both e)
 abbrev pub readFrom : {A E : Type 0} → (A → E) → (Refusal → E) → Said A → E
 readFrom answer refuse (answers a) = answer a
 readFrom answer refuse (refusal why) = refuse why
+
+-- what was refused in the end was refused at first, or answered and then refused
+pub by-onward : {A B X : Type 0} (said : Said A) (rest : A → Said B) {why : Refusal} → onward said rest ≡ refusal why
+    → (said ≡ refusal why → X) → ((a : A) → said ≡ answers a → rest a ≡ refusal why → X) → X
+by-onward (answers a) rest e first then = then a refl e
+by-onward (refusal other) rest {why} e first then = let same : other ≡ why = cc in first (ap refusal same)
 
 -- what was answered in the end was first answered, and then gone on with
 pub went-on : {A B : Type 0} {b : B} (said : Said A) (rest : A → Said B) → onward said rest ≡ answers b

@@ -6,7 +6,7 @@ use mathlib.Core.List.{List, [], _∷_}
 use mathlib.Core.Bool.{Bool, true, false, cond}
 use lib.Dec.{eqb}
 use Rattle.refusals.specs.declared.Refusal.{Refusal}
-use Rattle.refusals.specs.Numbers.{numbered}
+use Rattle.refusals.specs.Numbers.{numbered, recordRefusals}
 
 pub data Said (A : Type 0) : Type 0 where
   answers : A → Said A
@@ -16,10 +16,13 @@ pub data Said (A : Type 0) : Type 0 where
 abbrev pub refuses : {A : Type 0} → ℕ → ℕ → Said A
 refuses number beside = refusal (numbered number beside)
 
--- go on where the test holds, and refuse with this number and the one beside it where it does not
+-- go on where the test holds, and refuse so where it does not: with all numbers of the refusal, or with its number and the one beside it
+abbrev pub demandBy : {A : Type 0} → Bool → Refusal → Said A → Said A
+demandBy true why rest = rest
+demandBy false why rest = refusal why
+
 abbrev pub demand : {A : Type 0} → Bool → ℕ → ℕ → Said A → Said A
-demand true number beside rest = rest
-demand false number beside rest = refuses number beside
+demand test number beside rest = demandBy test (numbered number beside) rest
 
 -- go on with an answer, and pass a refusal on
 abbrev pub onward : {A B : Type 0} → Said A → (A → Said B) → Said B
@@ -31,6 +34,8 @@ unfoldable pub isAmong : List ℕ → ℕ → Bool
 isAmong [] n = false
 isAmong (one ∷ rest) n = cond (eqb one n) true (isAmong rest n)
 
--- whatever refusal is said has one of these numbers
+-- whatever refusal is said has one of these numbers; and if it is not of a record, it has no size and nothing is absent
 pub record Numbered {A : Type 0} (numbers : List ℕ) (said : Said A) : Type 0 where
   pub among : (why : Refusal) → said ≡ refusal why → isAmong numbers (why .number) ≡ true
+  pub nothing-absent : (why : Refusal) → said ≡ refusal why → isAmong recordRefusals (why .number) ≡ false
+      → (why .size ≡ 0) × (why .absent ≡ 0)

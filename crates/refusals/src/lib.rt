@@ -1,21 +1,29 @@
-// Refusal numbers: why a call refuses, as a number and the number beside it. One type for every call of the project, and
-// a function for each cause. Every function here is for the crates above. Rests on blocks, for the places.
+// Refusal numbers: why a call refuses, as a number and the number beside it, and of a QP7 record that cannot be read its size and how many
+// bytes are absent. One type for every call of the project, and a function for each cause. Every public function here is for the crates above.
+// Rests on blocks, for the places.
 use blocks::FilePlace;
 use blocks::StreamPlace;
 ghost use mathlib.Core.Path.{_≡_};
-ghost use Rattle.refusals.specs.Numbers.{numbered};
+ghost use Rattle.refusals.specs.Numbers.{lacking, numbered};
 
 pub struct Refusal {
     pub number: u64,
     pub beside: u64,
+    pub size: u64,
+    pub absent: u64,
 }
 
 impl Refusal {
-    // By a number, with the number beside it.
+    // By a number, with the number beside it: nothing is absent.
     fn by(number: u64, beside: u64) -> Self
         ensures { λ r. ⌜ r ≡ numbered number beside ⌝ }
     {
-        Self { number, beside }
+        Self {
+            number,
+            beside,
+            size: 0,
+            absent: 0,
+        }
     }
 
     // Under 4 bytes, or not a magic that the call takes.
@@ -39,18 +47,28 @@ impl Refusal {
         Self::by(3, start.0 as u64)
     }
 
-    // A record cannot be told: fewer than 2 bytes are left at this place of the stream.
-    pub fn selector(at: StreamPlace) -> Self
-        ensures { λ r. ⌜ r ≡ numbered 4 (at .0) ⌝ }
+    // A record cannot be told: of the 2 bytes from this place of the stream on so many are absent.
+    pub fn selector(at: StreamPlace, absent: usize) -> Self
+        ensures { λ r. ⌜ r ≡ lacking 4 (at .0) 0 absent ⌝ }
     {
-        Self::by(4, at.0 as u64)
+        Self {
+            number: 4,
+            beside: at.0 as u64,
+            size: 0,
+            absent: absent as u64,
+        }
     }
 
-    // The record at this place runs past the stream.
-    pub fn record(at: StreamPlace) -> Self
-        ensures { λ r. ⌜ r ≡ numbered 5 (at .0) ⌝ }
+    // The record at this place, which has so many bytes, runs past the stream: so many of them are absent.
+    pub fn record(at: StreamPlace, size: usize, absent: usize) -> Self
+        ensures { λ r. ⌜ r ≡ lacking 5 (at .0) size absent ⌝ }
     {
-        Self::by(5, at.0 as u64)
+        Self {
+            number: 5,
+            beside: at.0 as u64,
+            size: size as u64,
+            absent: absent as u64,
+        }
     }
 
     // A piece or a strict end comes while the reader drains, or a piece after its end.

@@ -113,7 +113,7 @@ fn with_records(
     list: &[u8],
     before: Seen,
     file: &[u8],
-    said: [u64; 4],
+    said: [u64; 6],
     records: &[u32],
     segments: &[u32],
 ) -> Seen {
@@ -123,9 +123,11 @@ fn with_records(
         digest_words(0, records, words(1, said[2] as usize)),
         digest_words(0, segments, words(qp7::ENTRY, many)),
         all.digest,
+        said[4],
+        said[5],
     ];
     let seen = expect_all(list, before, &said, 0, 4);
-    expect_all(list, seen, &left, 0, 3)
+    expect_all(list, seen, &left, 0, 5)
 }
 
 fn in_tables(

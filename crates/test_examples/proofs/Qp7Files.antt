@@ -9,8 +9,8 @@ use borrow.Author.Tests.{ne-eqb}
 use Rattle.blocks.specs.Places.{streamAt}
 use Rattle.blocks.specs.Headers.{firstOf, countOf}
 use Rattle.refusals.specs.declared.Refusal.{Refusal}
-use Rattle.refusals.specs.Numbers.{numbered}
-use Rattle.refusals.specs.Said.{refuses, refusal}
+use Rattle.refusals.specs.Numbers.{lacking}
+use Rattle.refusals.specs.Said.{refusal}
 use Rattle.detect.specs.declared.Kind.the-variants.{Qp7}
 use Rattle.frames.specs.Start.{framesStart}
 use Rattle.qp7.specs.Records.{recordSize, recordAt}
@@ -61,22 +61,22 @@ refused-block f why file is =
     rw (taken-as Qp7 1 f (omega arith) (omega arith) file) (simp (ne-eqb (countOf f 1536 0) 0 some, is))
 
 -- 9 long records from a start on, and then a tenth that is refused
-tenth : (s : ℕ → ℕ) (start number : ℕ) (g : Gathered) → g .place ≡ start → start ≤ 2
-    → ((k : ℕ) → start + 56 * k + 2 ≤ 506 → recordSize (s (start + 56 * k + 1)) ≡ 56) → refuses number (start + 504) ≡ recordAt s 506 (start + 504)
-    → reads s 506 10 g ≡ refuses number (start + 504)
-tenth s start number g at few each last =
+tenth : (s : ℕ → ℕ) (start : ℕ) (why : Refusal) (g : Gathered) → g .place ≡ start → start ≤ 2
+    → ((k : ℕ) → start + 56 * k + 2 ≤ 506 → recordSize (s (start + 56 * k + 1)) ≡ 56) → refusal why ≡ recordAt s 506 (start + 504)
+    → reads s 506 10 g ≡ refusal why
+tenth s start why g at few each last =
     let rest = after-long s 506 9 1 g (λ k h. (omega (arith, at), rw at (each k (omega arith)))) in
     let there : rest .0 .place ≡ start + 504 = omega (arith, rest .2, at) in
-    rest .1 ∙ reads-stop s 506 0 (rest .0) (numbered number (start + 504)) (last ∙ ap (recordAt s 506) (sym there))
+    rest .1 ∙ reads-stop s 506 0 (rest .0) why (last ∙ ap (recordAt s 506) (sym there))
 
 pub five-holds : Example5
 unfolding framesStart
 five-holds f file ten = (
   (λ three long.
-      refused-block f (numbered 5 504) file
+      refused-block f (lacking 5 504 56 54) file
       (rw (ten, three)
-      (tenth (streamAt f 1536 1) 0 5 (raised 0 nothing) refl (omega arith) long (runs-past (streamAt f 1536 1) 506 504 56 (omega arith) (sym (long 9 (omega arith))) (omega arith))))),
+      (tenth (streamAt f 1536 1) 0 (lacking 5 504 56 54) (raised 0 nothing) refl (omega arith) long (runs-past (streamAt f 1536 1) 506 504 56 (omega arith) (sym (long 9 (omega arith))) (omega arith))))),
   (λ four long.
-      refused-block f (numbered 4 506) file
-      (rw (ten, four) (tenth (streamAt f 1536 1) 2 4 (raised 2 nothing) refl (omega arith) long (no-selector (streamAt f 1536 1) 506 506 (omega arith))))),
+      refused-block f (lacking 4 506 0 2) file
+      (rw (ten, four) (tenth (streamAt f 1536 1) 2 (lacking 4 506 0 2) (raised 2 nothing) refl (omega arith) long (no-selector (streamAt f 1536 1) 506 506 (omega arith))))),
 )

@@ -8,7 +8,8 @@ use lib.ListN.{length, getD, take, drop}
 use Rattle.tables.specs.Table.{table, sum}
 use Rattle.blocks.specs.Places.{wholeBlocks, streamAt}
 use Rattle.blocks.specs.Headers.{swapOf, firstOf, countOf, typeOf}
-use Rattle.refusals.specs.Said.{Said, answers, refuses}
+use Rattle.refusals.specs.Numbers.{lacking}
+use Rattle.refusals.specs.Said.{Said, answers, refuses, refusal}
 use Rattle.detect.specs.declared.Kind.{Kind}
 use Rattle.detect.specs.declared.Kind.the-variants.{Sp, Qp, Qp7}
 use Rattle.detect.specs.Header.{goodHeader}
@@ -75,14 +76,16 @@ abbrev pub Example4 : Type 0
 Example4 = (take 6 swappedRead ≡ 1 ∷ 99 ∷ 3 ∷ 0 ∷ 5 ∷ 2 ∷ []) × (drop 38 swappedRead ≡ 39 ∷ 36 ∷ 0 ∷ 38 ∷ [])
 
 -- 5: every QP7 file of one block that announces 10 records, where each of those that follow one another by 56 bytes is a long one as far
--- as the block has its second byte: with byte 1 = 3 it is refused by 5 at 504, and with byte 1 = 4 by 4 at 506
+-- as the block has its second byte: with byte 1 = 3 it is refused by 5 at 504, where 54 of 56 bytes are absent, and with byte 1 = 4 by 4 at
+-- 506, where both bytes are absent that would tell the size
 abbrev pub AllLong : List ℕ → ℕ → Type 0
 AllLong f start = (k : ℕ) → start + 56 * k + 2 ≤ 506 → recordSize (streamAt f 1536 1 (start + 56 * k + 1)) ≡ 56
 
 abbrev pub Example5 : Type 0
 Example5 =
     (f : List ℕ) → Ds2File Qp7 1 f → countOf f 1536 0 ≡ 10
-    → (firstOf f 1536 0 ≡ 3 → AllLong f 0 → qp7Reading f ≡ refuses 5 504) × (firstOf f 1536 0 ≡ 4 → AllLong f 2 → qp7Reading f ≡ refuses 4 506)
+    → (firstOf f 1536 0 ≡ 3 → AllLong f 0 → qp7Reading f ≡ refusal (lacking 5 504 56 54))
+    × (firstOf f 1536 0 ≡ 4 → AllLong f 2 → qp7Reading f ≡ refusal (lacking 4 506 0 2))
 
 -- 6: every SP file of one block, with flag 0 and count 13, reads as 13 packets, of which the last has count 14, and the counts add up to
 -- 506

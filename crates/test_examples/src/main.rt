@@ -8,6 +8,7 @@ use test_samples::ds2_file;
 use test_samples::long_records;
 use test_samples::shown::number;
 use test_samples::shown::show;
+use test_samples::shown::show_record_refusal;
 use test_samples::shown::show_refusal;
 use test_samples::shown::text;
 use test_samples::shown::word;
@@ -131,7 +132,7 @@ fn show_records(file: [u8; 4096])
             number(totals.records);
             text(b" records");
         }
-        qp7::Demuxed::Refused(why) => show_refusal(why),
+        qp7::Demuxed::Refused(why) => show_record_refusal(why),
     }
 }
 

@@ -162,10 +162,12 @@ pub fn qp_said(answer: qp::Demuxed) -> [u64; 4] {
     }
 }
 
-// A refusal and the number beside it, then records and segments.
-pub fn qp7_said(answer: qp7::Demuxed) -> [u64; 4] {
+// A refusal and the number beside it, then records and segments, then the refused record's size and the bytes that are absent.
+pub fn qp7_said(answer: qp7::Demuxed) -> [u64; 6] {
     match answer {
-        qp7::Demuxed::Refused(why) => [why.number, why.beside, 0, 0],
-        qp7::Demuxed::Tables(totals) => { [0, 0, totals.records as u64, totals.segments as u64] }
+        qp7::Demuxed::Refused(why) => [why.number, why.beside, 0, 0, why.size, why.absent],
+        qp7::Demuxed::Tables(totals) => {
+            [0, 0, totals.records as u64, totals.segments as u64, 0, 0]
+        }
     }
 }

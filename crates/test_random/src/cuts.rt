@@ -54,7 +54,7 @@ fn try_cuts(
 // How many numbers of the tally are not the whole reading's.
 fn tally_differs(number: u64, file: &[u8], whole: Whole) -> usize {
     let told = test_readings::tallied(file);
-    test_tools::all_differ(b"tally of file ", number, &whole, &told, 9)
+    test_tools::all_differ(b"tally of file ", number, &whole, &told, 11)
 }
 
 // The whole reading of a file and its tally, and then each cut.

@@ -12,17 +12,17 @@ use test_sums::COUNTS;
 use test_sums::NUMBER;
 use test_sums::PACKETS;
 
-// A file's whole reading: the nine numbers that a tally has of it, and digests of its packets and of their counts.
-pub type Whole = [u64; 11];
+// A file's whole reading: the eleven numbers that a tally has of it, and digests of its packets and of their counts.
+pub type Whole = [u64; 13];
 
 // How many frames it announces, how many packets, frames or records it hands out, and the digests.
 pub const ANNOUNCED: usize = 5;
 
 pub const MANY: usize = 6;
 
-pub const DIGEST: usize = 9;
+pub const DIGEST: usize = 11;
 
-pub const DIGEST_OF_COUNTS: usize = 10;
+pub const DIGEST_OF_COUNTS: usize = 12;
 
 fn byte(file: &[u8], at: usize) -> usize {
     if at < file.len() {
@@ -81,9 +81,9 @@ fn short_in(file: &[u8], made: Made, ds2: bool, counts: &[u8], many: usize) -> u
     short_in_dss(file, made, counts)
 }
 
-// A refused reading has 0 for each of its other numbers.
-fn refused(number: u64, beside: u64) -> Whole {
-    [number, beside, 0, 0, 0, 0, 0, 0, 0, 0, 0]
+// A refused reading has 0 for each of its other numbers, but for a record's size and the bytes that are absent.
+fn refused(number: u64, beside: u64, size: u64, absent: u64) -> Whole {
+    [number, beside, 0, 0, 0, 0, 0, 0, 0, size, absent, 0, 0]
 }
 
 // What the SP call of a family handed out, in so many packets.
@@ -99,6 +99,8 @@ fn read_sp(file: &[u8], made: Made, ds2: bool, came: test_sums::Sums, counts: &[
         many,
         short_in(file, made, ds2, counts, many as usize) as u64,
         sum_of(counts, many as usize) as u64,
+        0,
+        0,
         came[BYTES],
         came[COUNTS],
     ]
@@ -109,7 +111,7 @@ fn whole_sp(file: &[u8], made: Made, ds2: bool, out: &mut [u8], counts: &mut [u8
     let answer = test_sums::demux(file, !ds2, out, counts);
     let came = test_sums::told(answer, out, counts);
     if came[NUMBER] != 0 {
-        return refused(came[NUMBER], came[BESIDE]);
+        return refused(came[NUMBER], came[BESIDE], 0, 0);
     }
     read_sp(file, made, ds2, came, counts)
 }
@@ -126,6 +128,8 @@ fn gathered(kind: u64, made: Made, announced: u64, all: Gathered) -> Whole {
         all.many as u64,
         all.short as u64,
         all.bytes as u64,
+        0,
+        0,
         all.digest,
         0,
     ]
@@ -135,7 +139,7 @@ fn whole_qp(file: &[u8], made: Made) -> Whole {
     let mut table = [0u32; 256];
     let said = qp_said(qp::demux_ds2_qp(file, &mut table));
     if said[0] != 0 {
-        return refused(said[0], said[1]);
+        return refused(said[0], said[1], 0, 0);
     }
     let all = test_fetched::of_segments(file, &table, said[2] as usize);
     gathered(2, made, said[3], all)
@@ -146,7 +150,7 @@ fn whole_qp7(file: &[u8], made: Made) -> Whole {
     let mut segments = [0u32; 256];
     let said = qp7_said(qp7::demux_ds2_qp7(file, &mut records, &mut segments));
     if said[0] != 0 {
-        return refused(said[0], said[1]);
+        return refused(said[0], said[1], said[4], said[5]);
     }
     let all = test_fetched::of_records(file, &records, &segments, said[3] as usize);
     gathered(3, made, said[2], all)
@@ -182,12 +186,26 @@ fn kind_number(kind: FileKind) -> u64 {
     }
 }
 
-// The tally in numbers: refusal and beside; kind, audio start and blocks; and the frames that are announced, and what is handed out, how much
-// of it short, and its bytes.
-pub fn tallied(file: &[u8]) -> [u64; 9] {
+// The tally in numbers: refusal and beside; kind, audio start and blocks; the frames that are announced, what is handed out, how much of it
+// short, and its bytes; and a refused record's size and the bytes that are absent.
+pub fn tallied(file: &[u8]) -> [u64; 11] {
     let answer = tally::tally(file);
     match answer {
-        Tallied::Refused(why) => [why.number, why.beside, 0, 0, 0, 0, 0, 0, 0],
+        Tallied::Refused(why) => {
+            [
+                why.number,
+                why.beside,
+                0,
+                0,
+                0,
+                0,
+                0,
+                0,
+                0,
+                why.size,
+                why.absent,
+            ]
+        }
         Tallied::Counted(figures) => {
             let kind = figures.kind;
             [
@@ -200,6 +218,8 @@ pub fn tallied(file: &[u8]) -> [u64; 9] {
                 figures.out.many as u64,
                 figures.out.short as u64,
                 figures.out.bytes,
+                0,
+                0,
             ]
         }
     }

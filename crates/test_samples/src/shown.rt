@@ -39,3 +39,12 @@ pub fn show_refusal(why: Refusal) {
     text(b" ");
     io::print_decimal(STDOUT_FILENO, why.beside);
 }
+
+// The refusal of a record: its size too, and how many bytes are absent.
+pub fn show_record_refusal(why: Refusal) {
+    show_refusal(why);
+    text(b" ");
+    io::print_decimal(STDOUT_FILENO, why.size);
+    text(b" ");
+    io::print_decimal(STDOUT_FILENO, why.absent);
+}

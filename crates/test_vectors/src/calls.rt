@@ -55,7 +55,7 @@ fn listed(list: &[u8], before: Seen, file: &[u8]) -> Seen {
     let long = listing::list_line(file, &mut line);
     let seen = expect(list, before, test_tools::digest(0, &line[..long], long));
     let told = test_readings::tallied(file);
-    expect_all(list, seen, &told, 0, 9)
+    expect_all(list, seen, &told, 0, 11)
 }
 
 // All answers after those of the whole calls.

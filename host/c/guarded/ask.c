@@ -19,28 +19,28 @@ struct named {
 
 #define BIT(n) (1ull << (n))
 #define WHOLE (BIT(1) | BIT(2) | BIT(3))
-#define FOUR {"refusal", "beside", "first", "second"}
+#define SIX {"refusal", "beside", "first", "second", "size", "absent"}
 
 static const struct named exports[EXPORTS] = {
     [DETECT_FORMAT] = {"klov_detect_format", 1, {"answer"}, 0},
     [DETECT_START] = {"klov_detect_ds2_audio_start", 1, {"answer"}, 0},
     [DETECT_TYPE] = {"klov_detect_ds2_format_type", 1, {"answer"}, 0},
     [IS_HEADER] = {"klov_is_ds2_audio_block_header", 1, {"answer"}, 0},
-    [PAYLOAD] = {"klov_payload", 4, FOUR, WHOLE | BIT(12)},
-    [DEMUX_DSS] = {"klov_demux_dss", 4, FOUR, WHOLE | BIT(8)},
-    [DEMUX_DS2_SP] = {"klov_demux_ds2_sp", 4, FOUR, WHOLE | BIT(11) | BIT(8)},
-    [DEMUX_QP] = {"klov_demux_ds2_qp", 4, FOUR, WHOLE | BIT(11) | BIT(9)},
-    [DEMUX_QP7] = {"klov_demux_ds2_qp7", 4, FOUR, WHOLE | BIT(11) | BIT(4) | BIT(5) | BIT(8) | BIT(9)},
-    [FRAME_OF] = {"klov_frame", 4, FOUR, 0},
-    [FETCH] = {"klov_fetch", 4, FOUR, WHOLE | BIT(12)},
-    [SHOW] = {"klov_show", 4, FOUR, WHOLE | BIT(12)},
-    [TALLY] = {"klov_tally", 9, {"refusal", "beside", "kind", "start", "blocks", "announced", "handed", "short_count", "bytes"},
+    [PAYLOAD] = {"klov_payload", 6, SIX, WHOLE | BIT(12)},
+    [DEMUX_DSS] = {"klov_demux_dss", 6, SIX, WHOLE | BIT(8)},
+    [DEMUX_DS2_SP] = {"klov_demux_ds2_sp", 6, SIX, WHOLE | BIT(11) | BIT(8)},
+    [DEMUX_QP] = {"klov_demux_ds2_qp", 6, SIX, WHOLE | BIT(11) | BIT(9)},
+    [DEMUX_QP7] = {"klov_demux_ds2_qp7", 6, SIX, WHOLE | BIT(11) | BIT(4) | BIT(5) | BIT(8) | BIT(9)},
+    [FRAME_OF] = {"klov_frame", 6, SIX, 0},
+    [FETCH] = {"klov_fetch", 6, SIX, WHOLE | BIT(12)},
+    [SHOW] = {"klov_show", 6, SIX, WHOLE | BIT(12)},
+    [TALLY] = {"klov_tally", 11, {"refusal", "beside", "kind", "start", "blocks", "announced", "handed", "short_count", "bytes", "size", "absent"},
                WHOLE | BIT(4) | BIT(5)},
-    [WRITE] = {"klov_write_ds2_sp", 4, FOUR, BIT(15) | BIT(16) | BIT(17) | BIT(8)},
-    [OPEN] = {"klov_open", 4, FOUR, BIT(10)},
-    [PIECE] = {"klov_piece", 4, FOUR, BIT(6) | BIT(2) | BIT(7) | BIT(8)},
-    [STRICT_END] = {"klov_strict_end", 4, FOUR, BIT(6) | BIT(3) | BIT(13) | BIT(14)},
-    [LENIENT_END] = {"klov_lenient_end", 4, FOUR, BIT(3)},
+    [WRITE] = {"klov_write_ds2_sp", 6, SIX, BIT(15) | BIT(16) | BIT(17) | BIT(8)},
+    [OPEN] = {"klov_open", 6, SIX, BIT(10)},
+    [PIECE] = {"klov_piece", 6, SIX, BIT(6) | BIT(2) | BIT(7) | BIT(8)},
+    [STRICT_END] = {"klov_strict_end", 6, SIX, BIT(6) | BIT(3) | BIT(13) | BIT(14)},
+    [LENIENT_END] = {"klov_lenient_end", 6, SIX, BIT(3)},
 };
 
 uint64_t calls, checks, wrong;

@@ -105,11 +105,11 @@ static void examples(void)
     start_file("\1ds2");
     put_block(1536, 0x0F, 3, 10, 7);
     memset(bytes + 1542, 0xFF, STREAM);
-    EXAMPLE(DEMUX_QP7, 2048, 5, 504);
-    EXAMPLE(TALLY, 2048, 5, 504);
+    EXAMPLE(DEMUX_QP7, 2048, 5, 504, [ANSWER_SIZE] = 56, [ANSWER_ABSENT] = 54);
+    EXAMPLE(TALLY, 2048, 5, 504, [TALLY_SIZE] = 56, [TALLY_ABSENT] = 54);
     bytes[1537] = 4;
-    EXAMPLE(DEMUX_QP7, 2048, 4, 506);
-    EXAMPLE(TALLY, 2048, 4, 506);
+    EXAMPLE(DEMUX_QP7, 2048, 4, 506, [ANSWER_SIZE] = 0, [ANSWER_ABSENT] = 2);
+    EXAMPLE(TALLY, 2048, 4, 506, [TALLY_SIZE] = 0, [TALLY_ABSENT] = 2);
     about("example of the description", 6);
     put_block(1536, 0x0F, 3, 13, 0);
     EXAMPLE(TALLY, 2048, 0, 0, 1, 1536, 1, 13, 13, 1, 506);
@@ -152,9 +152,36 @@ static void swapped_packet(void)
     expect(&q, &want);
 }
 
+/* Sentences of refusals: whatever the numbers are, each fits with its end; and those of a record, word for word. */
+static void sentences(void)
+{
+    static const struct {
+        klov_answer refused;
+        const char *sentence;
+    } records[] = {
+        {{.refusal = 4, .beside = 506, .size = 0, .absent = 2},
+         "a record should begin at place 506 of the payload stream: 2 of its first two bytes are missing"},
+        {{.refusal = 5, .beside = 504, .size = 56, .absent = 54},
+         "a record of 56 bytes at place 504 of the payload stream: 54 bytes are missing"},
+    };
+    char text[KLOV_SENTENCE];
+    for (uint64_t n = 0; n < 20; n++) {
+        about("sentence of refusal", n);
+        klov_answer longest = {.refusal = n, .beside = UINT64_MAX, .size = UINT64_MAX, .absent = UINT64_MAX};
+        int length = klov_refusal_sentence(text, sizeof text, &longest);
+        check_number("its length", strlen(text), (uint64_t)length);
+    }
+    for (size_t i = 0; i < sizeof records / sizeof *records; i++) {
+        about("sentence of refusal", records[i].refused.refusal);
+        klov_refusal_sentence(text, sizeof text, &records[i].refused);
+        check_number("whether it is another", 0, strcmp(text, records[i].sentence) != 0);
+    }
+}
+
 void edges(void)
 {
     examples();
+    sentences();
     dss_starts();
     swapped_packet();
     few_bytes();

@@ -13,7 +13,7 @@
 enum { PAGE = 4096, BLOCK = 512, HEAD = 6, STREAM = 506, PACKET = 42, FRAME = 56, HOLD = 12288, DS2_START = 1536 };
 /* bytes of a table's word, and words of a segment's entry */
 enum { WORD = 4, QP_WORDS = 4, QP7_WORDS = 3 };
-enum { LIMIT = 268435456, NUMBERS = 9, MOST_FILE = 120000 };
+enum { LIMIT = 268435456, NUMBERS = 11, MOST_FILE = 120000 };
 
 /* ---- guard.c: memory ---- */
 
@@ -62,6 +62,9 @@ struct question {
     uint64_t x, y, z;
     klov_reader *reader;
 };
+
+/* Where the size of a record that cannot be read, and how many of its bytes are absent, stand among the numbers of an answer and of a tally. */
+enum { ANSWER_SIZE = 4, ANSWER_ABSENT = 5, TALLY_SIZE = 9, TALLY_ABSENT = 10 };
 
 /* What must come: so many numbers, and what `b` and `c` begin with afterwards. Everything else in them must be as it was. */
 struct answer {

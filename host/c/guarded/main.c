@@ -11,7 +11,7 @@ enum { MADE_FILES = 2400 };
 
 struct area file_area, piece_area, header_area;
 
-_Static_assert(sizeof(klov_answer) == 32 && sizeof(klov_tallied) == 72, "the answers have nothing between their numbers");
+_Static_assert(sizeof(klov_answer) == 48 && sizeof(klov_tallied) == 88, "the answers have nothing between their numbers");
 _Static_assert(sizeof(klov_reader) == KLOV_READER_SIZE, "a reader's size");
 _Static_assert(_Alignof(klov_reader) == KLOV_READER_ALIGN, "a reader's alignment");
 _Static_assert(offsetof(klov_opened, reader) == sizeof(klov_answer), "the reader stands right after the answer");

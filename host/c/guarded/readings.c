@@ -137,16 +137,26 @@ static void close_records(struct lists *l, uint64_t first)
     l->segment_count++;
 }
 
+/* Refusal 4 or 5 of a record: its size, if it can be told, and how many bytes lie past the stream's end. */
+static struct answer lacking(uint64_t refusal, uint64_t place, uint64_t size, uint64_t absent)
+{
+    struct answer a = refused(refusal, place);
+    a.numbers[ANSWER_SIZE] = size;
+    a.numbers[ANSWER_ABSENT] = absent;
+    return a;
+}
+
 /* So many records from a place on; or refusal 4 or 5. */
 static struct answer records_of(struct file f, const struct shape *s, struct lists *l, uint64_t *place, unsigned count)
 {
     uint64_t end = STREAM * s->blocks;
     for (unsigned i = 0; i < count; i++) {
-        if (*place + 2 > end)
-            return refused(4, *place);
+        uint64_t there = *place < end ? end - *place : 0;
+        if (there < 2)
+            return lacking(4, *place, 0, 2 - there);
         uint64_t size = stream_byte(f, s, *place + 1) & 0x80 ? 56 : 12;
-        if (*place + size > end)
-            return refused(5, *place);
+        if (there < size)
+            return lacking(5, *place, size, size - there);
         l->words[l->n++] = (uint32_t)*place;
         l->bytes += size;
         *place += size;
@@ -190,6 +200,15 @@ static void tally_sp(struct file f, const struct shape *s, struct lists *l)
     }
 }
 
+/* The same refusal, of records, by the numbers of a tally. */
+static struct answer tally_refused(struct answer a)
+{
+    struct answer tally = refused(a.numbers[0], a.numbers[1]);
+    tally.numbers[TALLY_SIZE] = a.numbers[ANSWER_SIZE];
+    tally.numbers[TALLY_ABSENT] = a.numbers[ANSWER_ABSENT];
+    return tally;
+}
+
 struct answer model_tally(struct file f, struct lists *l)
 {
     struct shape s = model_shape(f, true, true);
@@ -204,7 +223,7 @@ struct answer model_tally(struct file f, struct lists *l)
     else
         tally_sp(f, &s, l);
     if (a.numbers[0] != 0)
-        return a;
+        return tally_refused(a);
     return (struct answer){.numbers = {0, 0, kind, s.start, s.blocks, s.announced, l->handed, l->shorts, l->bytes}};
 }
 

@@ -101,6 +101,15 @@ fn command_line(arguments: impl Iterator<Item = OsString>) -> Outcome<Asked> {
     Ok(Asked::Run { names, force })
 }
 
+/// The refusal's number and the number beside it; and of a record that cannot be read its size and the bytes that are absent.
+fn numbers(refusal: &Refusal) -> String {
+    let Refusal { number, beside, size, absent } = refusal;
+    match *number {
+        Refusal::NO_RECORD | Refusal::CUT_RECORD => format!("{number} {beside} {size} {absent}"),
+        _ => format!("{number} {beside}"),
+    }
+}
+
 /// A program, by its name in messages, and what --help prints.
 pub struct Program {
     pub name: &'static str,
@@ -119,8 +128,8 @@ impl Program {
         match told {
             Ok((report, status)) => self.say(&format_args!("{report}\n"), status),
             Err(Stop::Refused(refusal)) => {
-                let Refusal { number, beside } = refusal;
-                self.say(&format_args!("refused {number} {beside}: {refusal}\n"), status::REFUSED)
+                let numbers = numbers(&refusal);
+                self.say(&format_args!("refused {numbers}: {refusal}\n"), status::REFUSED)
             }
             Err(Stop::Failed(what)) => self.complain(&what, status::FAILED),
             Err(Stop::Misused(what)) => self.complain(&what, status::WRONG_USE),

@@ -160,7 +160,7 @@ pub struct QpTable {
 /// All segments of a QP file. Refusals 1, 2, 3, 11.
 pub fn demux_ds2_qp(data: &[u8]) -> Result<QpTable> {
     let needed = match demux_ds2_qp_into(data, &mut []) {
-        Err(Refusal { number: Refusal::TABLE, beside }) => beside as usize,
+        Err(Refusal { number: Refusal::TABLE, beside, .. }) => beside as usize,
         answer => answer?.0,
     };
     let mut table = vec![0; QP_WORDS * needed];
@@ -208,10 +208,10 @@ pub struct Qp7Table {
 pub fn demux_ds2_qp7(data: &[u8]) -> Result<Qp7Table> {
     let (mut records, mut segments) = (Vec::new(), Vec::new());
     // Records are asked for first, and then, with room for them, segments.
-    if let Err(Refusal { number: Refusal::ROOM, beside }) = demux_ds2_qp7_into(data, &mut records, &mut segments) {
+    if let Err(Refusal { number: Refusal::ROOM, beside, .. }) = demux_ds2_qp7_into(data, &mut records, &mut segments) {
         records.resize(beside as usize, 0);
     }
-    if let Err(Refusal { number: Refusal::TABLE, beside }) = demux_ds2_qp7_into(data, &mut records, &mut segments) {
+    if let Err(Refusal { number: Refusal::TABLE, beside, .. }) = demux_ds2_qp7_into(data, &mut records, &mut segments) {
         segments.resize(QP7_WORDS * beside as usize, 0);
     }
     demux_ds2_qp7_into(data, &mut records, &mut segments)?;
@@ -286,7 +286,7 @@ impl Ds2QpStreamDemuxer {
     /// Keeps a piece; no frames come before the end. Refusal 2, and what was there is kept.
     pub fn push(&mut self, data: &[u8]) -> Result<Vec<Vec<u8>>> {
         if data.len() > LIMIT - self.data.len() {
-            return Err(Refusal { number: Refusal::LIMIT, beside: LIMIT as u64 });
+            return Err(Refusal { number: Refusal::LIMIT, beside: LIMIT as u64, size: 0, absent: 0 });
         }
         self.data.extend_from_slice(data);
         Ok(Vec::new())

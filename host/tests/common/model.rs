@@ -1,8 +1,15 @@
 // A small model of the format: what every reading answers, in vectors and without a thought of speed. It rests on the format's
 // description (docs/FORMAT.md) alone.
 
-/// A refusal's number and the number beside it.
-pub type Answer<T> = Result<T, (u64, u64)>;
+/// A refusal: its number, the number beside it, and of a QP7 record that cannot be read its size and how many bytes are absent.
+pub type Refused = [u64; 4];
+
+pub type Answer<T> = Result<T, Refused>;
+
+/// A refusal that is not of a record: it has no size, and nothing is absent.
+pub const fn refused(number: u64, beside: u64) -> Refused {
+    [number, beside, 0, 0]
+}
 
 pub const LIMIT: usize = 268_435_456;
 
@@ -102,14 +109,14 @@ pub fn format(file: &[u8]) -> Option<&'static str> {
 pub fn kind(file: &[u8]) -> Answer<(Kind, usize)> {
     let dss = matches!(file.get(..4), Some(b"\x02dss" | b"\x03dss"));
     if !dss && !matches!(file.get(..4), Some(b"\x01ds2" | b"\x03ds2" | b"\x07ds2")) {
-        return Err((1, 0));
+        return Err(refused(1, 0));
     }
     if file.len() > LIMIT {
-        return Err((2, LIMIT as u64));
+        return Err(refused(2, LIMIT as u64));
     }
     let start = if dss { 512 * usize::from(file[0]) } else { ds2_start(file) };
     if file.len() < start {
-        return Err((3, start as u64));
+        return Err(refused(3, start as u64));
     }
     let kind = match (dss, ds2_type(file, start)) {
         (true, _) => Kind::DssSp,
@@ -125,7 +132,7 @@ pub fn kind_for(file: &[u8], dss: bool) -> Answer<(Kind, usize)> {
     if matches!(file.get(..4), Some(b"\x02dss" | b"\x03dss")) == dss {
         kind(file)
     } else {
-        Err((1, 0))
+        Err(refused(1, 0))
     }
 }
 
@@ -331,6 +338,19 @@ pub fn qp_frames(file: &[u8], start: usize) -> Vec<Vec<u8>> {
     qp(file, start).iter().flat_map(|segment| -> Vec<_> { bytes(segment) }).collect()
 }
 
+/// The bytes of the record at a place, by its second byte; or how many of its first two, and then of all of them, are not there.
+fn record_size(stream: &[u8], place: usize) -> Answer<usize> {
+    let there = stream.len().saturating_sub(place);
+    if there < 2 {
+        return Err([4, place, 0, 2 - there].map(|number| number as u64));
+    }
+    let size = if stream[place + 1] & 0x80 == 0 { 12 } else { 56 };
+    if there < size {
+        return Err([5, place, size, size - there].map(|number| number as u64));
+    }
+    Ok(size)
+}
+
 pub fn qp7(file: &[u8], start: usize) -> Answer<Vec<Records>> {
     let stream = stream(file, start);
     let mut segments: Vec<Records> = Vec::new();
@@ -349,11 +369,7 @@ pub fn qp7(file: &[u8], start: usize) -> Answer<Vec<Records>> {
         }
         place = place.max(first_frame(number, block));
         for _ in 0..block[2] {
-            let second = stream.get(place + 1).ok_or((4, place as u64))?;
-            let size = if second & 0x80 == 0 { 12 } else { 56 };
-            if place + size > stream.len() {
-                return Err((5, place as u64));
-            }
+            let size = record_size(&stream, place)?;
             open.push((place, size));
             place += size;
         }
@@ -374,7 +390,7 @@ pub fn fetch(file: &[u8], place: usize, size: usize, scratch: usize) -> Answer<O
     let (_, start) = kind_for(file, false)?;
     let end = 506 * whole_blocks(file.len(), start);
     if size == 0 || size > 56 || scratch < 56 || place > end || size > end - place {
-        return Err((12, 0));
+        return Err(refused(12, 0));
     }
     Ok((place % 506 + size <= 506).then_some(start + place / 506 * 512 + 6 + place % 506))
 }
@@ -405,11 +421,11 @@ pub fn tally(file: &[u8]) -> Answer<[u64; 7]> {
 /// The DS2 SP file that a header and joined packets make, or why they make none. The limit is not asked for: no list here is so long.
 pub fn written(header: &[u8], packets: &[u8]) -> Answer<Vec<u8>> {
     if header.len() != 1536 || !matches!(&header[..4], b"\x01ds2" | b"\x03ds2") {
-        return Err((15, 0));
+        return Err(refused(15, 0));
     }
     let packets: Vec<&[u8]> = packets.chunks(42).collect();
     if let Some(bad) = packets.iter().position(|packet| packet.len() < 42 || packet[40] != 0) {
-        return Err((16, bad as u64));
+        return Err(refused(16, bad as u64));
     }
     let (stream, begins) = written_stream(&packets);
     let mut file = header.to_vec();

@@ -1,7 +1,7 @@
--- `listing::put_refusal` meets its contract: the word, the two numbers and the line's end are put one after another.
+-- `listing::put_refusal` meets its contract: the word, the two numbers and the rest of the line are put one after another.
 -- Assumes nothing.
 use borrow.Author.Needs.{needs}
-use Rattle.listing.proofs.Text.{put-join, put-more, put-end, put-lists}
+use Rattle.listing.proofs.Text.{put-join, put-more, put-lists}
 use Rattle.listing.proofs.put_refusal.Statement.{statement}
 use Rattle.listing.proofs.put_refusal.Tie as tie
 
@@ -17,11 +17,8 @@ put-number-requires c κs = search needs
 put-number-requires-2 : tie.Need-put-number-requires-2
 put-number-requires-2 c κs = search needs
 
-slice-aggregate-put-text-2 : tie.Need-slice-aggregate-put-text-2
-slice-aggregate-put-text-2 c = search needs
-
-put-text-requires-2 : tie.Need-put-text-requires-2
-put-text-requires-2 c κs = search needs
+put-lack-requires : tie.Need-put-lack-requires
+put-lack-requires c κs = search needs
 
 same-length : tie.Need-same-length
 same-length c = search needs
@@ -29,13 +26,13 @@ same-length c = search needs
 returns : tie.Need-returns
 returns c =
     let end = c .before .before in
-    let second = end .before .before .before .before .before in
+    let second = end .before .before .before .before in
     let first = second .before .before .before .before in
     let word = first .before .before .before .before in
     put-lists
     (put-join (word .put-text .ensures)
     (put-more _ _ (first .put-number .ensures .0)
-    (put-more _ _ (second .put-number2 .ensures .0) (put-end (end .put-text2 .ensures)))))
+    (put-more _ _ (second .put-number2 .ensures .0) (end .put-lack .ensures))))
 
 pub put-refusal-spec : {M : Type 1} → statement M
 put-refusal-spec =
@@ -45,7 +42,6 @@ put-refusal-spec =
     put-text-requires
     put-number-requires
     put-number-requires-2
-    slice-aggregate-put-text-2
-    put-text-requires-2
+    put-lack-requires
     same-length
     returns)

@@ -22,6 +22,8 @@ returns c =
       handed = f .out .many;
       «short_count» = f .out .short;
       bytes = f .out .bytes;
+      size = 0;
+      absent = 0;
     }) (c .of-kind .ensures)
 
 pub counted-spec : {M : Type 1} → statement M
