@@ -19,7 +19,6 @@ CONSTANTS = {"LIMIT": "blocks::LIMIT", "PACKET": "packets::PACKET", "FRAME": "fr
 IN_HEADER = ("LIMIT", "PACKET", "FRAME", "BLOCK", "PAYLOAD", "QP_WORDS", "QP7_WORDS")
 IN_RUST = ("LIMIT", "PACKET", "FRAME", "PAYLOAD", "BLOCK", "QP_WORDS", "QP7_WORDS")
 BESIDE = {2: "LIMIT", 7: "HOLD", 17: "LIMIT"}  # refusals whose number beside is a constant
-IN_SENTENCE = {4: ("beside", "absent"), 5: ("size", "beside", "absent")}  # the numbers in a refusal's sentence, where it has more than the one beside
 LISTS = ("crates/klovdrun/specs/Refusals.antt", "crates/tally/specs/Tallies.antt")  # where the exports' lists of refusals are defined
 wrong = []
 
@@ -209,10 +208,10 @@ def check_names(header, source):
     named = {name: int(number) for name, number in re.findall(r"\bKLOV_REFUSED_(\w+) = (\d+)", header)}
     compare("enum of refusals", known(), sorted(named.values()))
     compare("Rust names", sorted(named.items()), sorted((name, int(number)) for name, number in re.findall(r"pub const (\w+): u64 = (\d+);", source)))
-    texts = [line.replace("%llu", "{}").format(*("{%s}" % name for name in IN_SENTENCE.get(number, ("beside",))))
-             for number, line in enumerate(re.findall(r'^ {8}"(.*)",$', header, re.M))]
+    sentence = r'case KLOV_REFUSED_(\w+):\s+return snprintf\(text, room, "(.*)"((?:, \w+)*)\);'
+    texts = {name: line.replace("%llu", "{{{}}}").format(*re.findall(r"\w+", given)) for name, line, given in re.findall(sentence, header)}
     said = dict(re.findall(r'Refusal::(\w+) => write!\(to, "(.*)"\),', source))
-    compare("Rust texts", [(name, texts[number] if number < len(texts) else "") for name, number in named.items()], list(said.items()))
+    compare("Rust texts", [(name, texts.get(name, "")) for name in named], list(said.items()))
     numbers = text("crates/numbers/specs/Numbers.antt")
     for function, before in (("formatNumber", "KLOV_FORMAT_"), ("kindNumber", "KLOV_")):
         cases = re.findall(rf"^{function} (?:kinds\.)?(\w+) = (\d+)$", numbers, re.M)
@@ -238,14 +237,14 @@ def check_archive(archive):
 
 
 def check_compiled(path):
-    """What a C compiler makes of the header: the structs' sizes and the reader's alignment. Any machine's compiler will do."""
+    """What a C compiler makes of the header: no warning, the structs' sizes and the reader's alignment. Any machine's compiler will do."""
     lines = [f'#include "{path}"']
     for name in ("Answer", "Tallied", "Opened"):
         lines.append(f'_Static_assert(sizeof(klov_{name.lower()}) == {layout(name)[0]}, "size");')
     size, align, _ = layout("Reader")
     lines.append(f'_Static_assert(sizeof(klov_reader) == {size} && _Alignof(klov_reader) == {align}, "reader");')
     lines.append(f'_Static_assert(offsetof(klov_opened, reader) == {layout("Answer")[0]}, "opened");')
-    command = [os.environ.get("CC", "cc"), "-std=c11", "-Wall", "-Wextra", "-Werror", "-I.", "-fsyntax-only", "-xc", "-"]
+    command = [os.environ.get("CC", "cc"), "-std=c11", "-Wall", "-Wextra", "-Wformat=2", "-Werror", "-I.", "-fsyntax-only", "-xc", "-"]
     done = subprocess.run(command, input="\n".join(lines), capture_output=True, text=True)
     if done.returncode:
         say("compiled header", "its sizes", done.stderr.strip())

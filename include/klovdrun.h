@@ -57,7 +57,8 @@
  *    4  QP7: fewer than 2 bytes where a record is to be read                               that place in the payload stream
  *         size 0, since it cannot be told; absent: how many of the first 2 bytes are not there, which is always 2
  *    5  QP7: a record runs past the payload stream                                         its place in the payload stream
- *         size: its bytes; absent: how many of them lie past the stream's end, an even number of at least 2
+ *         size: its bytes; absent: how many of them lie past the stream's end, an even number of at least 2. The stream has the payloads of whole
+ *         blocks: bytes of a last block that is cut count as absent. Records that are announced after this one are not told of
  *    6  a piece after the end or while draining; the strict end while draining             0
  *    7  a piece: what is unread would not fit in the reader's hold                         12288
  *    8  packets, records or bytes exceed the room                                          how many are needed
@@ -225,7 +226,7 @@ KLOV_MUST_USE klov_answer klov_demux_ds2_qp(const uint8_t *file, size_t file_len
 KLOV_MUST_USE klov_answer klov_demux_ds2_qp7(const uint8_t *file, size_t file_len, uint32_t *records, size_t records_len, uint32_t *segments, size_t segments_len);
 
 /* Frame k of a QP segment that has `length` bytes from `start` on. first: its place in the payload stream; second: its size. Both are 0
- * when it is missing, or when its place would not fit 64 bits. Refuses nothing. */
+ * when it is missing, or when its place would not fit 64 bits. The field `size` is no frame's, and 0. Refuses nothing. */
 KLOV_MUST_USE klov_answer klov_frame(uint64_t start, uint64_t length, uint64_t k);
 
 /* `size` bytes of a DS2 file's payload stream: a frame, or a QP7 record, of which the first 2 bytes are fetched first, since its second byte
@@ -283,41 +284,61 @@ KLOV_MUST_USE static inline int klov_complete_as_announced(const klov_tallied *t
         && file_len == tallied->start + KLOV_BLOCK * tallied->blocks;
 }
 
+/* The refusal of a tally, as an answer has it. */
+KLOV_MUST_USE static inline klov_answer klov_tally_refusal(const klov_tallied *tallied)
+{
+    klov_answer refused = {tallied->refusal, tallied->beside, 0, 0, tallied->size, tallied->absent};
+    return refused;
+}
+
 /* Room for any of the sentences below, with its end. */
 #define KLOV_SENTENCE 192u
 
 /* A sentence for a refusal, with its numbers, as snprintf puts it: into `text`, which has `room` bytes, KLOV_SENTENCE being enough. What comes
- * back is how long the whole sentence is. A tally that was refused is asked for by an answer with the same refusal, beside, size and absent. */
+ * back is how long the whole sentence is. */
 static inline int klov_refusal_sentence(char *text, size_t room, const klov_answer *refused)
 {
-    unsigned long long beside = refused->beside, size = refused->size, absent = refused->absent;
-    static const char *const texts[] = {
-        "the call answered",
-        "this is not a recording that the call reads: its first four bytes are others, or are not there",
-        "the input is over the limit of %llu bytes",
-        "the recording ends inside its header, which has %llu bytes",
-        "a record should begin at place %llu of the payload stream: %llu of its first two bytes are missing",
-        "a record of %llu bytes at place %llu of the payload stream: %llu bytes are missing",
-        "the reader has ended, or is being drained",
-        "what is unread would not fit in the reader's hold of %llu bytes",
-        "the room is too small for %llu packets, records or bytes",
-        "the table is too small: %llu segments need it",
-        "there is no reader of kind %llu",
-        "this is a DS2 recording of type %llu, which another call reads",
-        "the recording has no such frame or block, or the scratch is too small",
-        "the recording ends inside a block, of which %llu bytes are there",
-        "the recording has ended, and %llu of the frames that it announces are owed",
-        "the header is not one of 1,536 bytes that begins a DS2 recording with first byte 1 or 3",
-        "packet %llu is cut short, or its byte 40 is not 0",
-        "the file would be over the limit of %llu bytes",
-    };
-    const char *form = "a refusal that is not known here, with %llu beside it";
-    if (refused->refusal < sizeof texts / sizeof texts[0])
-        form = texts[refused->refusal];
-    /* Some sentences have fewer numbers: what is left over is not looked at. */
-    if (refused->refusal == KLOV_REFUSED_CUT_RECORD)
-        return snprintf(text, room, form, size, beside, absent);
-    return snprintf(text, room, form, beside, absent);
+    unsigned long long number = refused->refusal, beside = refused->beside, size = refused->size, absent = refused->absent;
+    switch (number) {
+    case KLOV_ANSWERED:
+        return snprintf(text, room, "the call answered");
+    case KLOV_REFUSED_MAGIC:
+        return snprintf(text, room, "this is not a recording that the call reads: its first four bytes are others, or are not there");
+    case KLOV_REFUSED_LIMIT:
+        return snprintf(text, room, "the input is over the limit of %llu bytes", beside);
+    case KLOV_REFUSED_HEADER:
+        return snprintf(text, room, "the recording ends inside its header, which has %llu bytes", beside);
+    case KLOV_REFUSED_NO_RECORD:
+        return snprintf(text, room, "a record should begin at place %llu of the payload stream: %llu of its first 2 bytes are missing", beside, absent);
+    case KLOV_REFUSED_CUT_RECORD:
+        return snprintf(text, room, "a record of %llu bytes at place %llu of the payload stream: %llu bytes are missing", size, beside, absent);
+    case KLOV_REFUSED_ENDED:
+        return snprintf(text, room, "the reader has ended, or is being drained");
+    case KLOV_REFUSED_HOLD:
+        return snprintf(text, room, "what is unread would not fit in the reader's hold of %llu bytes", beside);
+    case KLOV_REFUSED_ROOM:
+        return snprintf(text, room, "the room is too small for %llu packets, records or bytes", beside);
+    case KLOV_REFUSED_TABLE:
+        return snprintf(text, room, "the table is too small: %llu segments need it", beside);
+    case KLOV_REFUSED_KIND:
+        return snprintf(text, room, "there is no reader of kind %llu", beside);
+    case KLOV_REFUSED_TYPE:
+        return snprintf(text, room, "this is a DS2 recording of type %llu, which another call reads", beside);
+    case KLOV_REFUSED_PLACE:
+        return snprintf(text, room, "the recording has no such frame or block, or the scratch is too small");
+    case KLOV_REFUSED_CUT_BLOCK:
+        return snprintf(text, room, "the recording ends inside a block, of which %llu bytes are there", beside);
+    case KLOV_REFUSED_OWING:
+        return snprintf(text, room, "the recording has ended, and %llu of the frames that it announces are owed", beside);
+    case KLOV_REFUSED_WRITER_HEADER:
+        return snprintf(text, room, "the header is not one of 1,536 bytes that begins a DS2 recording with first byte 1 or 3");
+    case KLOV_REFUSED_PACKET:
+        return snprintf(text, room, "packet %llu is cut short, or its byte 40 is not 0", beside);
+    case KLOV_REFUSED_FILE_LIMIT:
+        return snprintf(text, room, "the file would be over the limit of %llu bytes", beside);
+    default:
+        return snprintf(text, room, "refusal %llu, which is not known here, with %llu", number, beside);
+    }
 }
 
 #ifdef __cplusplus

@@ -32,6 +32,8 @@ static const char help[] =
     "  complete as announced: 1234 packets                                                  0\n"
     "  incomplete: 13 packets, 0 bytes of a cut block, 1 frames owed, 1 short: 12           1\n"
     "  refused 3 1536: the recording ends inside its header, which has 1536 bytes           3\n"
+    "Of a QP7 record that cannot be read, refusals 4 and 5, two more numbers stand before the colon, its size and its absent bytes:\n"
+    "  refused 5 504 56 54: a record of 56 bytes at place 504 of the payload stream: 54 bytes are missing\n"
     "Complete as announced: all that the recording's blocks announce is there. A block that was lost or zeroed announces nothing, and\n"
     "nobody can tell. Owed are frames that are announced and had not come when the recording ended. Short are packets and frames of\n"
     "which bytes are missing, in a packet with zeros in their place; their numbers follow, counted from 0. Of a refused recording no\n"
@@ -685,7 +687,7 @@ static enum outcome read_whole(struct intake *it)
     hold_all(&it->in);
     klov_tallied t = klov_tally(file->at, file->len);
     if (t.refusal != KLOV_ANSWERED)
-        return refused(it, (klov_answer){.refusal = t.refusal, .beside = t.beside, .size = t.size, .absent = t.absent});
+        return refused(it, klov_tally_refusal(&t));
     enum outcome outcome = whole_kind(it, file, &t);
     if (outcome != READ)
         return outcome;

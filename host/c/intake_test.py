@@ -34,7 +34,14 @@ def literals(text, begin, end):
     return [bytes(s, "ascii").decode("unicode_escape") for s in re.findall(r'"((?:[^"\\]|\\.)*)"', part[:part.index(end)])]
 
 
-SENTENCES = literals(source("../../include/klovdrun.h"), "texts[] = {", "};")
+def sentences(header):
+    """By its number, a refusal's sentence and the names of the numbers that stand in it."""
+    numbers = dict(re.findall(r"\bKLOV_REFUSED_(\w+) = (\d+)", header))
+    found = re.findall(r'case KLOV_REFUSED_(\w+):\s+return snprintf\(text, room, "(.*)"((?:, \w+)*)\);', header)
+    return {int(numbers[name]): (text, re.findall(r"\w+", given)) for name, text, given in found}
+
+
+SENTENCES = sentences(source("../../include/klovdrun.h"))
 HELP = "".join(literals(source("intake.c"), "help[] =", ";\n\n"))
 
 
@@ -188,12 +195,11 @@ def in_ranges(numbers):
 
 def refused(number, beside, size=0, absent=0):
     """The line of a refusal; of a record that cannot be read it tells how much is missing, too."""
-    numbers, sentence = f"{number} {beside}", SENTENCES[number]
-    if number in (4, 5):
-        numbers += f" {size} {absent}"
-    for one in {4: (beside, absent), 5: (size, beside, absent)}.get(number, (beside,)):
-        sentence = sentence.replace("%llu", str(one), 1)
-    return f"refused {numbers}: {sentence}\n"
+    told = {"beside": beside, "size": size, "absent": absent}
+    numbers = [number, beside, size, absent] if number in (4, 5) else [number, beside]
+    text, names = SENTENCES[number]
+    sentence = text.replace("%llu", "%d") % tuple(told[name] for name in names)
+    return f"refused {' '.join(map(str, numbers))}: {sentence}\n"
 
 
 def expected(data):
@@ -430,7 +436,7 @@ def cut_named(m):
             stream = (bytes(first) + record * (whole + 1))[:PAYLOAD * blocks]
             heads = [(whole + 1, 3 + first // 2)] if blocks == 1 else [(whole, 3 + first // 2), (1, 3)]
             made = [m.block(count, byte1, kind=7, payload=stream[PAYLOAD * i:PAYLOAD * (i + 1)]) for i, (count, byte1) in enumerate(heads)]
-            yield f"qp7 in {blocks} blocks, {there} of {size} bytes", m.file(b"\x01ds2", 1536, *made)
+            yield f"qp7, blocks {blocks}, {there} of {size} bytes", m.file(b"\x01ds2", 1536, *made)
 
 
 def damages(b, i=40):
@@ -552,9 +558,9 @@ class Trial:
 
 # Lines of some recordings word for word, which hold the model and the header's sentences to them.
 LINES = {
-    "qp7 refused 4": "refused 4 506 0 2: a record should begin at place 506 of the payload stream: 2 of its first two bytes are missing\n",
+    "qp7 refused 4": "refused 4 506 0 2: a record should begin at place 506 of the payload stream: 2 of its first 2 bytes are missing\n",
     "qp7 refused 5": "refused 5 504 56 54: a record of 56 bytes at place 504 of the payload stream: 54 bytes are missing\n",
-    "qp7 in 2 blocks, 2 of 12 bytes": "refused 5 1010 12 10: a record of 12 bytes at place 1010 of the payload stream: 10 bytes are missing\n",
+    "qp7, blocks 2, 2 of 12 bytes": "refused 5 1010 12 10: a record of 12 bytes at place 1010 of the payload stream: 10 bytes are missing\n",
 }
 
 

@@ -30,6 +30,8 @@ The line, and the exit status:
   complete as announced: 1234 packets                                                  0
   incomplete: 13 packets, 0 bytes of a cut block, 1 frames owed, 1 short: 12           1
   refused 3 1536: the recording ends inside its header, which has 1536 bytes           3
+Of a QP7 record that cannot be read, refusals 4 and 5, two more numbers stand before the colon, its size and its absent bytes:
+  refused 5 504 56 54: a record of 56 bytes at place 504 of the payload stream: 54 bytes are missing
 Complete as announced: all that the recording's blocks announce is there. A block that was lost or zeroed announces nothing, and
 nobody can tell. Owed are frames that are announced and had not come when the recording ended. Short are packets and frames of
 which bytes are missing, in a packet with zeros in their place; their numbers follow, counted from 0. Of a refused recording no

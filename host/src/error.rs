@@ -12,8 +12,9 @@ pub struct Refusal {
     pub beside: u64,
     /// By [`CUT_RECORD`](Refusal::CUT_RECORD) the bytes of the record; 0 by every other.
     pub size: u64,
-    /// By [`CUT_RECORD`](Refusal::CUT_RECORD) how many of them lie past the payload stream's end, an even number of at least 2; by
-    /// [`NO_RECORD`](Refusal::NO_RECORD) how many of the first 2 bytes are not there, which is always 2; 0 by every other.
+    /// By [`CUT_RECORD`](Refusal::CUT_RECORD) how many of them lie past the payload stream's end, an even number of at least 2, bytes of a
+    /// last block that is cut among them; by [`NO_RECORD`](Refusal::NO_RECORD) how many of the first 2 bytes are not there, which is always
+    /// 2; 0 by every other.
     pub absent: u64,
 }
 
@@ -39,6 +40,13 @@ impl Refusal {
     pub const FILE_LIMIT: u64 = 17;
 }
 
+impl Refusal {
+    /// Of no record, so that nothing is absent.
+    pub(crate) const fn by(number: u64, beside: u64) -> Refusal {
+        Refusal { number, beside, size: 0, absent: 0 }
+    }
+}
+
 /// What every call that can refuse answers.
 pub type Result<T> = std::result::Result<T, Refusal>;
 
@@ -49,7 +57,7 @@ impl fmt::Display for Refusal {
             Refusal::MAGIC => write!(to, "this is not a recording that the call reads: its first four bytes are others, or are not there"),
             Refusal::LIMIT => write!(to, "the input is over the limit of {beside} bytes"),
             Refusal::HEADER => write!(to, "the recording ends inside its header, which has {beside} bytes"),
-            Refusal::NO_RECORD => write!(to, "a record should begin at place {beside} of the payload stream: {absent} of its first two bytes are missing"),
+            Refusal::NO_RECORD => write!(to, "a record should begin at place {beside} of the payload stream: {absent} of its first 2 bytes are missing"),
             Refusal::CUT_RECORD => write!(to, "a record of {size} bytes at place {beside} of the payload stream: {absent} bytes are missing"),
             Refusal::ENDED => write!(to, "the reader has ended, or is being drained"),
             Refusal::HOLD => write!(to, "what is unread would not fit in the reader's hold of {beside} bytes"),

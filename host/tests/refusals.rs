@@ -317,5 +317,5 @@ fn every_refusal_has_a_sentence_of_its_own() {
         assert_eq!((told.contains("43210"), told.contains("1357")), (number == 5, number == 4 || number == 5), "{number}");
     }
     assert_eq!(sentence(5, 504, 56, 54), "a record of 56 bytes at place 504 of the payload stream: 54 bytes are missing");
-    assert_eq!(sentence(4, 506, 0, 2), "a record should begin at place 506 of the payload stream: 2 of its first two bytes are missing");
+    assert_eq!(sentence(4, 506, 0, 2), "a record should begin at place 506 of the payload stream: 2 of its first 2 bytes are missing");
 }

@@ -1,23 +1,23 @@
 -- What the exports tell of a record that cannot be read: where it is, how long it is, and how many of its bytes are absent; and that no other
 -- refusal tells of such bytes. Assumes nothing.
-use Prim.Native.Nat.{ℕ, _*_, _<_}
+use Prim.Native.Nat.{ℕ, _<_}
 use mathlib.Core.Path.{_≡_, sym, _∙_, subst}
 use mathlib.Core.List.{List}
 use mathlib.Core.Bool.{true, false, not}
-use mathlib.Core.Logic.{_⊎_, ⊎-elim}
+use mathlib.Core.Logic.{⊎-elim}
 use native.Mathlib.Omega.{arith}
-use borrow.Author.Tests.{ne-eqb}
 use Rattle.tables.proofs.Cases.{never}
 use Rattle.blocks.specs.Headers.{Bytes}
 use Rattle.refusals.specs.declared.Refusal.{Refusal}
+use Rattle.refusals.specs.Numbers.{OfRecord}
 use Rattle.refusals.specs.Said.{Said, answers, refusal, isAmong}
 use Rattle.refusals.proofs.Said.{by-numbers}
 use Rattle.magic.specs.Magics.{namesDss}
 use Rattle.detect.specs.declared.Kind.the-variants.{Qp7}
 use Rattle.whole.specs.declared.Recording.{Recording}
-use Rattle.whole.specs.Admissions.{admission, ds2Admission, streamIn}
-use Rattle.qp7.specs.Records.{Lacks}
+use Rattle.whole.specs.Admissions.{admission, ds2Admission}
 use Rattle.qp7.specs.Walk.{qp7Reading}
+use Rattle.qp7.specs.Lacking.{Lacks}
 use Rattle.qp7.proofs.Theorems.{record-lacks, refused-as-read}
 use Rattle.tally.specs.Tallies.{tallied}
 use Rattle.tally.proofs.Theorems.{tally-lacks}
@@ -27,21 +27,12 @@ use Rattle.numbers.specs.Numbers.{tallyNumbers}
 use Rattle.klovdrun.specs.Wrapped.{Qp7Carries, Tells, toldBy, ofTally}
 use Rattle.klovdrun.proofs.Theorems.{qp7-tells, klov-tally-tells}
 
--- 4 or 5
-abbrev OfRecord : ℕ → Type 0
-OfRecord number = (number ≡ 4) ⊎ (number ≡ 5)
-
 module _ {A : Type 0} {numbers : List ℕ} {first second : A → ℕ} {other : ℕ} {said : Said A} {r : Answer}
     (told : Tells numbers first second other said r) where
-  -- An answer, and every refusal but 4 and 5, tells of no size and of no bytes that are absent.
-  pub only-records-lack : (r .refusal ≡ 4 → ⊥) → (r .refusal ≡ 5 → ⊥) → (r .size ≡ 0) × (r .absent ≡ 0)
-  unfolding isAmong
-  only-records-lack four five =
-      told .nothing-absent (simp (ne-eqb 4 (r .refusal) (λ e. four (sym e)), ne-eqb 5 (r .refusal) (λ e. five (sym e))))
-
-  -- A call whose list has neither 4 nor 5 never does.
+  -- A call whose list has neither 4 nor 5 tells of no size and of no bytes that are absent.
   pub never-lacks : isAmong numbers 4 ≡ false → isAmong numbers 5 ≡ false → (r .size ≡ 0) × (r .absent ≡ 0)
-  never-lacks no-four no-five = only-records-lack (λ four. not-listed 4 (omega arith) four no-four) (λ five. not-listed 5 (omega arith) five no-five)
+  never-lacks no-four no-five =
+      told .only-records-lack (⊎-elim (λ four. not-listed 4 (omega arith) four no-four) (λ five. not-listed 5 (omega arith) five no-five))
     where
       not-listed : (number : ℕ) → 0 < number → r .refusal ≡ number → isAmong numbers number ≡ false → ⊥
       not-listed number some is none = never (subst (λ (n : ℕ). isAmong numbers n ≡ true) is (told .listed (omega (arith, some, is)))) none
@@ -57,18 +48,18 @@ module _ {A : Type 0} {numbers : List ℕ} {first second : A → ℕ} {other : �
 -- record's size, and by how many bytes it would end past the stream's end; by 4 size 0, and 2 bytes.
 module _ (f : List ℕ) (bytes : Bytes f) where
   pub qp7-told-lacks : {records records′ segments segments′ : List ℕ} {r : Answer}
-      → Qp7Carries (qp7Reading f) records records′ segments segments′ r → (r .refusal ≡ 4) ⊎ (r .refusal ≡ 5)
-      → (rec : Recording) × (ds2Admission f Qp7 ≡ answers rec) × Lacks (streamIn f rec) (506 * rec .blocks) (toldBy r)
+      → Qp7Carries (qp7Reading f) records records′ segments segments′ r → OfRecord (r .refusal)
+      → (rec : Recording) × (ds2Admission f Qp7 ≡ answers rec) × Lacks f rec (toldBy r)
   qp7-told-lacks c of-record =
       let w = as-said (qp7-tells f c) of-record in
       let read = refused-as-read (qp7Reading f) _ _ _ _ (c .answer) (c .comes) (w .0) (c .comes .answer-is ∙ w .1) (w .3) in
       let l = record-lacks f bytes (w .0) read (w .3) in
-      (l .0, l .1, subst (Lacks (streamIn f (l .0)) (506 * l .0 .blocks)) (w .2) (l .2))
+      (l .0, l .1, subst (Lacks f (l .0)) (w .2) (l .2))
 
-  pub tally-told-lacks : {r : Tallied} → r ≡ tallyNumbers (tallied f) → (r .refusal ≡ 4) ⊎ (r .refusal ≡ 5)
+  pub tally-told-lacks : {r : Tallied} → r ≡ tallyNumbers (tallied f) → OfRecord (r .refusal)
       → (rec : Recording) × (admission f (namesDss f) (not (namesDss f)) ≡ answers rec)
-      × Lacks (streamIn f rec) (506 * rec .blocks) (toldBy (ofTally r))
+      × Lacks f rec (toldBy (ofTally r))
   tally-told-lacks {r} e of-record =
       let w = as-said {r = ofTally r} (klov-tally-tells f e) of-record in
       let l = tally-lacks f bytes (w .0) (w .1) (w .3) in
-      (l .0, l .1, subst (Lacks (streamIn f (l .0)) (506 * l .0 .blocks)) (w .2) (l .2))
+      (l .0, l .1, subst (Lacks f (l .0)) (w .2) (l .2))

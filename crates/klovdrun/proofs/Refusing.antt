@@ -1,4 +1,4 @@
--- Whatever an export's wrapped call refuses by is in the export's list.
+-- Whatever an export's wrapped call refuses by is in the export's list, and tells of absent bytes only if it is of a record.
 -- Assumes nothing.
 use Prim.Native.Nat.{ℕ, _+_, _*_}
 use mathlib.Core.Path.{_≡_, refl}
@@ -27,6 +27,7 @@ use Rattle.reader.specs.State.{State, isKind, startOf, owed, fitsBy, headerDone
 use Rattle.reader.specs.Calls.{openSaid, brings, pieceSaid, inBlock, strictBy, strictSaid, lenientSaid}
 use Rattle.klovdrun.specs.Refusals.{payloadRefusals, dssRefusals, ds2Refusals, qpRefusals, qp7Refusals, fetchRefusals, openRefusals, pieceRefusals, strictRefusals, lenientRefusals, writeRefusals}
 
+-- a payload
 pub payload-numbered : (f : List ℕ) (block : ℕ) → Numbered payloadRefusals (payloadPlace f block)
 unfolding payloadPlace isAmong hasAll
 payload-numbered f block =

@@ -8,7 +8,7 @@ use native.Mathlib.Omega.{arith}
 use lib.ListN.{length}
 use Rattle.tables.proofs.Cases.{never}
 use Rattle.refusals.specs.declared.Refusal.{Refusal}
-use Rattle.refusals.specs.Numbers.{recordRefusals}
+use Rattle.refusals.specs.Numbers.{OfRecord}
 use Rattle.refusals.specs.Said.{Said, answers, refusal, isAmong, Numbered}
 use Rattle.whole.specs.Payload.{payloadPlace}
 use Rattle.sp.specs.Readings.{Reading, dssReading, ds2Reading}
@@ -50,7 +50,7 @@ tells first second other (answers a) above-zero is {r} e =
       zero = λ z. (a, refl, ap (λ (x : Answer). x .beside) e, ap (λ (x : Answer). x .first) e, ap (λ (x : Answer). x .second) e);
       above = λ some. absurd (omega (arith, none));
       listed = λ some. absurd (omega (arith, none));
-      nothing-absent = λ other. (ap (λ (x : Answer). x .size) e, ap (λ (x : Answer). x .absent) e);
+      only-records-lack = λ other. (ap (λ (x : Answer). x .size) e, ap (λ (x : Answer). x .absent) e);
     }
 tells {numbers = numbers} first second other (refusal why) above-zero is {r} e =
     let number : r .refusal ≡ why .number = ap (λ (x : Answer). x .refusal) e in
@@ -70,8 +70,8 @@ tells {numbers = numbers} first second other (refusal why) above-zero is {r} e =
         absent,
       );
       listed = λ some. there;
-      nothing-absent = λ other.
-          let none = is .nothing-absent why refl (subst (λ (n : ℕ). isAmong recordRefusals n ≡ false) number other) in
+      only-records-lack = λ other.
+          let none = is .only-records-lack why refl (λ of-record. other (subst OfRecord (sym number) of-record)) in
           (size ∙ none .0, absent ∙ none .1);
     }
 

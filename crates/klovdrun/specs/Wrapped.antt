@@ -3,9 +3,9 @@
 use Prim.Native.Nat.{ℕ, _<_}
 use mathlib.Core.Path.{_≡_}
 use mathlib.Core.List.{List}
-use mathlib.Core.Bool.{true, false}
+use mathlib.Core.Bool.{true}
 use Rattle.refusals.specs.declared.Refusal.{Refusal}
-use Rattle.refusals.specs.Numbers.{lacking, recordRefusals}
+use Rattle.refusals.specs.Numbers.{lacking, OnlyRecordsLack}
 use Rattle.refusals.specs.Said.{Said, answers, refusal, isAmong}
 use Rattle.sp.specs.declared.Demuxed.{Demuxed}
 use Rattle.sp.specs.Readings.{Reading}
@@ -66,20 +66,20 @@ pub record Advances (call : Step → Type 0) (stored : Reader) (r : Answer) : Ty
   pub carries : Carries (λ answer. call (stepTo stored answer)) (λ answer. owingNumbers (r .second) (demuxedSays answer)) r
   pub owed-is : OwedCall stored (r .second)
 
+-- the refusal that r tells
+abbrev pub toldBy : Answer → Refusal
+toldBy r = lacking (r .refusal) (r .beside) (r .size) (r .absent)
+
 -- r tells what was said. With refusal 0 the call answered, and first and second are of its answer; with another it refused by that number,
 -- which is in the call's list, with that number beside it, that size and so many bytes absent, first is 0, and second is this other number.
--- Unless a record is refused, size and absent are 0
+-- Unless a record is refused, in answers too, size and absent are 0
 pub record Tells {A : Type 0} (numbers : List ℕ) (first second : A → ℕ) (other : ℕ) (said : Said A) (r : Answer) : Type 0 where
   pub zero : r .refusal ≡ 0 → (a : A) × (said ≡ answers a) × (r .beside ≡ 0) × (r .first ≡ first a) × (r .second ≡ second a)
   pub above : 0 < r .refusal
       → (why : Refusal) × (said ≡ refusal why) × (r .refusal ≡ why .number) × (r .beside ≡ why .beside) × (r .first ≡ 0) × (r .second ≡ other)
       × (r .size ≡ why .size) × (r .absent ≡ why .absent)
   pub listed : 0 < r .refusal → isAmong numbers (r .refusal) ≡ true
-  pub nothing-absent : isAmong recordRefusals (r .refusal) ≡ false → (r .size ≡ 0) × (r .absent ≡ 0)
-
--- the refusal that r tells
-abbrev pub toldBy : Answer → Refusal
-toldBy r = lacking (r .refusal) (r .beside) (r .size) (r .absent)
+  pub only-records-lack : OnlyRecordsLack (toldBy r)
 
 -- what a tally tells as an answer does: its refusal, how many frames are announced and handed out, size and absent
 abbrev pub ofTally : Tallied → Answer

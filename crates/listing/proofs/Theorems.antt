@@ -3,13 +3,13 @@
 use Prim.Native.Nat.{ℕ, _≤_, _<_}
 use mathlib.Core.Path.{_≡_, refl, sym, ap, _∙_}
 use mathlib.Core.List.{List, [], _∷_, _++_}
-use mathlib.Core.Logic.{_⊎_, ⊎-elim}
+use mathlib.Core.Logic.{⊎-elim, inl, inr}
 use borrow.Author.Tests.{ne-eqb}
 use denote.Ref.{now}
 use lib.ListN.{length}
 use Rattle.tables.specs.Settled.{SettledAs}
 use Rattle.refusals.specs.declared.Refusal.{Refusal}
-use Rattle.refusals.specs.Numbers.{lacking}
+use Rattle.refusals.specs.Numbers.{lacking, OfRecord}
 use Rattle.refusals.specs.Said.{answers, refusal, isAmong}
 use Rattle.tally.specs.declared.FileKind.the-variants.{Ds2Qp}
 use Rattle.tally.specs.Tallies.{tallied}
@@ -32,10 +32,11 @@ pub example-line : lineOf
 unfolding spacedAll decimalIn
 example-line = refl
 
--- And those of a record that is cut, and of one that is not there: `refused 5 504 56 54` and `refused 4 506 0 2`.
+-- The refusals of a record that is cut and of one that is not there have these lines: `refused 5 504 56 54` and `refused 4 506 0 2`.
 pub example-refusals : (lineOf (refusal (lacking 5 504 56 54))
-    ≡ refusedWord ++ (32 ∷ 53 ∷ 32 ∷ 53 ∷ 48 ∷ 52 ∷ 32 ∷ 53 ∷ 54 ∷ 32 ∷ 53 ∷ 52 ∷ 10 ∷ []))
-    × (lineOf (refusal (lacking 4 506 0 2)) ≡ refusedWord ++ (32 ∷ 52 ∷ 32 ∷ 53 ∷ 48 ∷ 54 ∷ 32 ∷ 48 ∷ 32 ∷ 50 ∷ 10 ∷ []))
+    ≡ 114 ∷ 101 ∷ 102 ∷ 117 ∷ 115 ∷ 101 ∷ 100 ∷ 32 ∷ 53 ∷ 32 ∷ 53 ∷ 48 ∷ 52 ∷ 32 ∷ 53 ∷ 54 ∷ 32 ∷ 53 ∷ 52 ∷ 10 ∷ [])
+    × (lineOf (refusal (lacking 4 506 0 2))
+    ≡ 114 ∷ 101 ∷ 102 ∷ 117 ∷ 115 ∷ 101 ∷ 100 ∷ 32 ∷ 52 ∷ 32 ∷ 53 ∷ 48 ∷ 54 ∷ 32 ∷ 48 ∷ 32 ∷ 50 ∷ 10 ∷ [])
 unfolding spacedAll decimalIn isAmong
 example-refusals = (refl, refl)
 
@@ -46,14 +47,15 @@ module _ (f : List ℕ) (few : length f ≤ 65536) (why : Refusal) (e : tallied 
   unfolding listLine
   listed-so = ap lineOf (short-enough f few ∙ e)
 
-  pub record-line : (why .number ≡ 4) ⊎ (why .number ≡ 5)
+  pub record-line : OfRecord (why .number)
       → listLine f ≡ refusedWord ++ spacedAll (why .number ∷ why .beside ∷ why .size ∷ why .absent ∷ [])
   unfolding isAmong
   record-line of-record = ⊎-elim (λ four. listed-so ∙ rw four) (λ five. listed-so ∙ rw five) of-record
 
-  pub other-line : (why .number ≡ 4 → ⊥) → (why .number ≡ 5 → ⊥) → listLine f ≡ refusedWord ++ spacedAll (why .number ∷ why .beside ∷ [])
+  pub other-line : (OfRecord (why .number) → ⊥) → listLine f ≡ refusedWord ++ spacedAll (why .number ∷ why .beside ∷ [])
   unfolding isAmong
-  other-line four five = listed-so ∙ simp (ne-eqb 4 (why .number) (λ is. four (sym is)), ne-eqb 5 (why .number) (λ is. five (sym is)))
+  other-line other =
+      listed-so ∙ simp (ne-eqb 4 (why .number) (λ is. other (inl (sym is))), ne-eqb 5 (why .number) (λ is. other (inr (sym is))))
 
 -- what a call answers and leaves
 abbrev Seen : Type 0

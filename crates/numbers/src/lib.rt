@@ -34,7 +34,7 @@ pub struct Answer {
     pub absent: u64,
 }
 
-// The tally's nine numbers, then size and absent as in an answer. `short` is a word of C's own, so it is `short_count`.
+// The tally's eleven numbers, of which the last two are as in an answer. `short` is a word of C's own, so it is `short_count`.
 #[repr(C)]
 pub struct Tallied {
     pub refusal: u64,

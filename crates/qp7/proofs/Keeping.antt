@@ -49,32 +49,59 @@ module _ {P : Gathered → Type 0} (f : List ℕ) (a n : ℕ) (kept : Kept f a n
       let w = went-on (gatheredTo f a n b) (withBlock f a n b) e in
       block-keeps-it b (omega arith) (w .0) g (w .2) (walk-keeps-it b (omega arith) (w .0) (w .1))
 
-  -- where it holds, a record is refused so
-  abbrev Stopped : Refusal → Type 0
-  Stopped why = (g : Gathered) × P g × (recordAt (streamAt f a n) (506 * n) (g .place) ≡ refusal why)
+  -- of m records from g on so many are read, and the next one is refused, where P holds
+  pub record StopsIn (m : ℕ) (g : Gathered) (why : Refusal) : Type 0 where
+    pub read : ℕ
+    pub few : read < m
+    pub here : Gathered
+    pub reads-to : reads (streamAt f a n) (506 * n) read g ≡ answers here
+    pub holds : P here
+    pub refused : recordAt (streamAt f a n) (506 * n) (here .place) ≡ refusal why
 
-  -- records that are refused stop at one of them
-  reads-stop : (m : ℕ) (g : Gathered) {why : Refusal} → reads (streamAt f a n) (506 * n) m g ≡ refusal why → P g → Stopped why
+  stop-in : (m : ℕ) (g : Gathered) {why : Refusal} → reads (streamAt f a n) (506 * n) m g ≡ refusal why → P g → StopsIn m g why
   unfolding reads
-  reads-stop zero g e p = absurd (not-both (sym e))
-  reads-stop (suc m) g e p =
-      by-onward (recordAt (streamAt f a n) (506 * n) (g .place)) _ e (λ here. (g, p, here))
-      (λ size found rest. reads-stop m (noted size g) rest (kept .by-a-record g size found p))
+  stop-in zero g e p = absurd (not-both (sym e))
+  stop-in (suc m) g {why} e p =
+      by-onward {X = StopsIn (suc m) g why} (recordAt (streamAt f a n) (506 * n) (g .place)) _ e
+      (λ here. record { read = 0; few = omega arith; here = g; reads-to = refl; holds = p; refused = here })
+      (λ size found rest.
+      let later = stop-in m (noted size g) rest (kept .by-a-record g size found p) in
+      record {
+        read = suc (later .read);
+        few = omega (arith, later .few);
+        here = later .here;
+        reads-to = ap (λ said. onward said (λ one. reads (streamAt f a n) (506 * n) (later .read) (noted one g))) found ∙ later .reads-to;
+        holds = later .holds;
+        refused = later .refused;
+      })
 
-  -- and so does a block, and the walk
-  block-stops : (b : ℕ) → b < n → (g : Gathered) {why : Refusal} → withBlock f a n b g ≡ refusal why → P g → Stopped why
-  block-stops b h g e p =
-      by-equal (countOf f a b) 0 (λ none. absurd (not-both (sym e ∙ silent-is f a n b g none)))
-      (λ some.
-      reads-stop (countOf f a b) (raised (framesStart b (firstOf f a b)) g) (sym (announcing-is f a n b g some) ∙ e)
-      (kept .by-a-start b h g p))
+  -- where the walk stops: in a block that it came to
+  pub record Stopped (b : ℕ) (why : Refusal) : Type 0 where
+    pub block : ℕ
+    pub block-before : block < b
+    pub before : Gathered
+    pub came-to : gatheredTo f a n block ≡ answers before
+    pub stops : StopsIn (countOf f a block) (raised (framesStart block (firstOf f a block)) before) why
 
-  pub walk-stops : (b : ℕ) → b ≤ n → {why : Refusal} → gatheredTo f a n b ≡ refusal why → Stopped why
+  pub walk-stops : (b : ℕ) → b ≤ n → {why : Refusal} → gatheredTo f a n b ≡ refusal why → Stopped b why
   unfolding gatheredTo
   walk-stops zero h e = absurd (not-both (sym e))
-  walk-stops (suc b) h e =
-      by-onward (gatheredTo f a n b) (withBlock f a n b) e (λ before. walk-stops b (omega arith) before)
-      (λ g came here. block-stops b (omega arith) g here (walk-keeps-it b (omega arith) g came))
+  walk-stops (suc b) h {why} e =
+      by-onward {X = Stopped (suc b) why} (gatheredTo f a n b) (withBlock f a n b) e
+      (λ earlier.
+      let s = walk-stops b (omega arith) earlier in
+      record { block = s .block; block-before = omega (arith, s .block-before); before = s .before; came-to = s .came-to; stops = s .stops })
+      (λ g came here.
+      by-equal (countOf f a b) 0 (λ none. absurd (not-both (sym here ∙ silent-is f a n b g none)))
+      (λ some.
+      record {
+        block = b;
+        block-before = omega arith;
+        before = g;
+        came-to = came;
+        stops = stop-in (countOf f a b) (raised (framesStart b (firstOf f a b)) g) (sym (announcing-is f a n b g some) ∙ here)
+            (kept .by-a-start b (omega arith) g (walk-keeps-it b (omega arith) g came));
+      }))
 
 -- n records more
 reads-many : (s : ℕ → ℕ) (long n : ℕ) (g g′ : Gathered) → reads s long n g ≡ answers g′ → length (g′ .records) ≡ length (g .records) + n

@@ -1,6 +1,6 @@
 -- What a refusal of a record says of the stream. The walk stands at an even place in it, since starts, sizes and the stream's own length are
 -- even; and there the record lacks an even number of bytes. Assumes nothing.
-use Prim.Native.Nat.{ℕ, _+_, _*_, _-_, _%_, _≤_, _<_}
+use Prim.Native.Nat.{ℕ, _+_, _*_, _%_, _≤_}
 use mathlib.Core.Path.{_≡_, refl, sym, subst}
 use mathlib.Core.List.{List}
 use native.Mathlib.Omega.{arith}
@@ -10,15 +10,15 @@ use Rattle.tables.proofs.Cases.{by-order}
 use Rattle.blocks.specs.Places.{blockAt, streamAt}
 use Rattle.blocks.specs.Headers.{Bytes, firstOf}
 use Rattle.refusals.specs.declared.Refusal.{Refusal}
-use Rattle.refusals.specs.Numbers.{lacking}
 use Rattle.refusals.specs.Said.{answers, refusal}
 use Rattle.refusals.proofs.Said.{not-both, by-refusal, by-onward}
 use Rattle.whole.specs.declared.Recording.{Recording}
 use Rattle.whole.specs.Admissions.{streamIn}
 use Rattle.frames.specs.Start.{framesStart}
 use Rattle.frames.proofs.Start.{starts-inside}
-use Rattle.qp7.specs.Records.{recordSize, absentOf, recordAt, Lacks}
-use Rattle.qp7.specs.Walk.{Gathered, noted, raised, closing, gatheredTo, gatheredFrom}
+use Rattle.qp7.specs.Records.{recordSize, recordAt}
+use Rattle.qp7.specs.Lacking.{Stops, Lacks}
+use Rattle.qp7.specs.Walk.{Gathered, closing, gatheredTo, gatheredFrom}
 use Rattle.qp7.proofs.Records.{long-size, short-size, record-found}
 use Rattle.qp7.proofs.Closing.{closing-place}
 use Rattle.qp7.proofs.Keeping.{Kept, walk-stops}
@@ -51,11 +51,13 @@ standing-kept f a n bytes =
       by-closing = λ g stands. (omega (arith, stands .0, closing-place g), omega (arith, stands .1, closing-place g));
     }
 
--- what is said of a record at an even place
-lacks-there : (s : ℕ → ℕ) (n q : ℕ) {why : Refusal} → q % 2 ≡ 0 → q ≤ 506 * n → recordAt s (506 * n) q ≡ refusal why → Lacks s (506 * n) why
+-- what is said of a record at an even place, where the walk stops
+lacks-there : (f : List ℕ) (rec : Recording) (q : ℕ) {why : Refusal} → Stops f rec q → q % 2 ≡ 0 → q ≤ 506 * rec .blocks
+    → recordAt (streamIn f rec) (506 * rec .blocks) q ≡ refusal why → Lacks f rec why
 unfolding recordAt
-lacks-there s n q even inside e =
-    let long = 506 * n in
+lacks-there f rec q stops even inside e =
+    let s = streamIn f rec in
+    let long = 506 * rec .blocks in
     let size = recordSize (s (q + 1)) in
     by-refusal (leb (q + 2) long) e
     (λ told rest.
@@ -63,23 +65,25 @@ lacks-there s n q even inside e =
     (λ past is.
     let there = leb-true (q + 2) long told in
     let over = leb-false (q + size) long past in
-    subst (Lacks s long) is
+    subst (Lacks f rec) is
     (record {
+      stops = stops;
       cut = λ five.
           (refl, omega (arith, there, over), omega (arith, there, over), omega (arith, there, over, even, size-even (s (q + 1))), omega (arith, there));
       untold = λ four. absurd (omega (arith, four));
     })))
     (λ few is.
     let none = leb-false (q + 2) long few in
-    subst (Lacks s long) is
+    subst (Lacks f rec) is
     (record {
+      stops = stops;
       cut = λ five. absurd (omega (arith, five));
       untold = λ four. (refl, omega (arith, none, even, inside), omega (arith, none, even, inside));
     }))
 
 -- so of any recording whose records cannot all be read
 pub gathered-lacks : (f : List ℕ) (rec : Recording) → Bytes f → {why : Refusal} → gatheredFrom f rec ≡ refusal why
-    → Lacks (streamIn f rec) (506 * rec .blocks) why
+    → Lacks f rec why
 unfolding gatheredFrom
 gathered-lacks f rec bytes e =
     let a = rec .start .0 in
@@ -87,5 +91,18 @@ gathered-lacks f rec bytes e =
     by-onward (gatheredTo f a n n) (λ g. answers (closing g)) e
     (λ stopped.
     let w = walk-stops {P = Stands n} f a n (standing-kept f a n bytes) n (omega arith) stopped in
-    lacks-there (streamAt f a n) n (w .0 .place) (w .1 .0) (w .1 .1) (w .2))
+    let there = w .stops in
+    lacks-there f rec (there .here .place)
+    (record {
+      block = w .block;
+      block-there = w .block-before;
+      before = w .before;
+      came-to = w .came-to;
+      read = there .read;
+      more-announced = there .few;
+      here = there .here;
+      reads-to = there .reads-to;
+      place-is = refl;
+    })
+    (there .holds .0) (there .holds .1) (there .refused))
     (λ g came r. absurd (not-both (sym r)))

@@ -1,13 +1,14 @@
--- Which numbers the walk over QP7 records refuses by, 4 and 5, and where it then stands.
+-- Which numbers the walk over QP7 records refuses by: 4 and 5, which alone tell of absent bytes.
 -- Assumes nothing.
 use Prim.Native.Nat.{ℕ, zero, suc, _+_, _*_}
 use mathlib.Core.Path.{refl, sym, subst}
-use mathlib.Core.List.{List, [], _∷_}
+use mathlib.Core.List.{List}
+use mathlib.Core.Logic.{inl, inr}
 use lib.Dec.{leb}
-use Rattle.tables.proofs.Cases.{by-equal, never}
+use Rattle.tables.proofs.Cases.{by-equal}
 use Rattle.blocks.specs.Places.{streamAt}
 use Rattle.blocks.specs.Headers.{firstOf, countOf}
-use Rattle.refusals.specs.Numbers.{lacking, recordRefusals}
+use Rattle.refusals.specs.Numbers.{recordRefusals}
 use Rattle.refusals.specs.Said.{Said, answers, isAmong, Numbered}
 use Rattle.refusals.proofs.Numbered.{answered, asked-by, goes-on}
 use Rattle.whole.specs.declared.Recording.{Recording}
@@ -21,8 +22,8 @@ finding : (s : ℕ → ℕ) (long q : ℕ) → Numbered recordRefusals (recordAt
 unfolding recordAt isAmong
 finding s long q =
     let size = recordSize (s (q + 1)) in
-    asked-by (leb (q + 2) long) _ refl (λ other. absurd (never refl other))
-    (asked-by (leb (q + size) long) _ refl (λ other. absurd (never refl other)) (answered size))
+    asked-by (leb (q + 2) long) _ refl (λ other. absurd (other (inl refl)))
+    (asked-by (leb (q + size) long) _ refl (λ other. absurd (other (inr refl))) (answered size))
 
 reading : (s : ℕ → ℕ) (long n : ℕ) (g : Gathered) → Numbered recordRefusals (reads s long n g)
 unfolding reads

@@ -1,6 +1,6 @@
 -- The segments that are closed share the records among them: each begins where the one before it ends, and has at least one.
 -- Assumes nothing.
-use Prim.Native.Nat.{ℕ, _+_, _*_, _-_, _≤_, _<_, min}
+use Prim.Native.Nat.{ℕ, _+_, _-_, _≤_, _<_, min}
 use mathlib.Core.Path.{_≡_, sym, ap, _∙_, subst}
 use mathlib.Core.List.{List, [], _∷_, _++_}
 use native.Mathlib.Nat.{not-suc-le-zero}
@@ -10,7 +10,6 @@ use lib.Seq.{getD-append-seam}
 use Rattle.tables.specs.Table.{sum}
 use Rattle.tables.proofs.Cases.{by-order}
 use Rattle.tables.proofs.Table.{same-table, table-sum-more, table-sum-none}
-use Rattle.blocks.specs.Places.{streamAt}
 use Rattle.refusals.specs.Said.{answers}
 use Rattle.qp7.specs.declared.Segment.{Segment}
 use Rattle.qp7.specs.Walk.{Gathered, openSegment, raised, closing, qp7Reading, noSegment, segmentAt, recordsBefore}

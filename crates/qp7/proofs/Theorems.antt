@@ -1,36 +1,35 @@
 -- What holds of `demux_ds2_qp7` for every file and all lent memory, beyond the contract or drawn from it. Each statement stands under a
 -- sentence that says it; the laws that carry them are in the files beside this one. Assumes nothing.
 use Prim.Native.Nat.{ℕ, _+_, _*_, _≤_, _<_, min}
-use mathlib.Core.Path.{_≡_, refl, sym, ap, _∙_, subst}
+use mathlib.Core.Path.{_≡_, refl, sym, ap, _∙_}
 use mathlib.Core.List.{List}
-use mathlib.Core.Bool.{true, false}
-use mathlib.Core.Logic.{_⊎_, ⊎-elim}
+use mathlib.Core.Logic.{⊎-elim}
 use native.Mathlib.Omega.{arith}
 use denote.Ref.{now}
 use lib.ListN.{length, take, drop}
 use lib.Dec.{leb}
 use Rattle.tables.specs.Settled.{SettledAs}
 use Rattle.tables.specs.Entries.{fronted}
-use Rattle.tables.proofs.Cases.{never}
 use Rattle.blocks.specs.Places.{streamAt}
 use Rattle.blocks.specs.Stream.{joined}
 use Rattle.blocks.specs.Headers.{Bytes}
 use Rattle.refusals.specs.declared.Refusal.{Refusal}
-use Rattle.refusals.specs.Numbers.{numbered}
+use Rattle.refusals.specs.Numbers.{numbered, OfRecord}
 use Rattle.refusals.specs.Said.{Said, answers, refuses, refusal, isAmong}
 use Rattle.refusals.proofs.Said.{not-both, by-refusal, by-onward, for-the-answer}
+use Rattle.refusals.proofs.Numbered.{not-of-record}
 use Rattle.whole.specs.declared.Recording.{Recording}
 use Rattle.detect.specs.declared.Kind.the-variants.{Qp7}
-use Rattle.whole.specs.Admissions.{ds2Admission, announcedBy, streamIn}
+use Rattle.whole.specs.Admissions.{ds2Admission, announcedBy}
 use Rattle.whole.proofs.Admissions.{ds2-admitted}
-use Rattle.whole.proofs.Refusing.{kindRefusals, ds2-admitting}
+use Rattle.whole.proofs.Refusing.{ds2-admitting}
 use Rattle.frames.specs.Cut.{fetchedBytes}
 use Rattle.frames.proofs.Shown.{can-be-fetched}
 use Rattle.frames.proofs.Theorems.{fill-then-show-joined}
 use Rattle.qp7.specs.declared.Totals.{Totals}
 use Rattle.qp7.specs.declared.Demuxed.{Demuxed}
-use Rattle.qp7.specs.Records.{Lacks}
 use Rattle.qp7.specs.Walk.{Gathered, gatheredFrom, qp7Reading, placeAt, sizeAt, segmentAt, recordsBefore}
+use Rattle.qp7.specs.Lacking.{Lacks}
 use Rattle.qp7.specs.Outcome.{recordWords, segmentWords, inRoom, inTables, totalsOf, answered, recordsAfter, segmentsAfter, demuxedSays, Demuxes, TablesHold}
 use Rattle.qp7.proofs.Records.{size-bounds}
 use Rattle.qp7.proofs.Keeping.{records-many, admitted-first}
@@ -88,20 +87,15 @@ module _ (f : List ℕ) (g : Gathered) (e : qp7Reading f ≡ answers g) where
         fill-then-show-joined f rec (placeAt g i) (sizeAt s g i) scratch
         (can-be-fetched f rec (placeAt g i) (sizeAt s g i) (length scratch) (ds2-admitted f Qp7 rec taken .0) (small .0) (small .1) (records-lie-in-the-stream i h) roomy)
 
--- A file that is refused by 4 or 5 was admitted, and the refusal says how much is missing. By 5: the record's size, by the byte after its place;
--- and the bytes by which it would end past the stream's end, 506 bytes for each whole block. By 4: size 0, and 2 bytes absent, the place
--- being the stream's end.
-pub record-lacks : (f : List ℕ) → Bytes f → (why : Refusal) → qp7Reading f ≡ refusal why → (why .number ≡ 4) ⊎ (why .number ≡ 5)
-    → (rec : Recording) × (ds2Admission f Qp7 ≡ answers rec) × Lacks (streamIn f rec) (506 * rec .blocks) why
+-- A file that is refused by 4 or 5 was admitted, and the refusal says how much is missing at the place where the walk stops. By 5: the record's
+-- size, by the byte after its place; and the bytes by which it would end past the stream's end, 506 bytes for each whole block. By 4: size 0,
+-- and 2 bytes absent, the place being the stream's end.
+pub record-lacks : (f : List ℕ) → Bytes f → (why : Refusal) → qp7Reading f ≡ refusal why → OfRecord (why .number)
+    → (rec : Recording) × (ds2Admission f Qp7 ≡ answers rec) × Lacks f rec why
 unfolding qp7Reading isAmong
 record-lacks f bytes why e of-record =
     by-onward (ds2Admission f Qp7) (gatheredFrom f) e
-    (λ turned.
-    let there = ds2-admitting f Qp7 .among why turned in
-    absurd
-    (⊎-elim (λ four. never (subst (λ (n : ℕ). isAmong kindRefusals n ≡ true) four there) refl)
-    (λ five. never (subst (λ (n : ℕ). isAmong kindRefusals n ≡ true) five there) refl)
-    of-record))
+    (λ turned. absurd (not-of-record (ds2-admitting f Qp7) refl refl turned of-record))
     (λ rec taken rest. (rec, taken, gathered-lacks f rec bytes rest))
 
 module _ (reading : Said Gathered) (records records′ segments segments′ : List ℕ) (answer : Demuxed)
@@ -118,7 +112,7 @@ module _ (reading : Said Gathered) (records records′ segments segments′ : Li
       refused (refusal why) e = (refl, refl)
 
   -- A call that is refused by 4 or 5 is refused as its reading is: with the place, the record's size and the bytes that are absent.
-  pub refused-as-read : (why : Refusal) → demuxedSays answer ≡ refusal why → (why .number ≡ 4) ⊎ (why .number ≡ 5) → reading ≡ refusal why
+  pub refused-as-read : (why : Refusal) → demuxedSays answer ≡ refusal why → OfRecord (why .number) → reading ≡ refusal why
   unfolding inRoom
   refused-as-read why e of-record =
       by-onward (inTables reading records segments) _ (sym (d .answer-is) ∙ e)

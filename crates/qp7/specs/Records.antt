@@ -1,11 +1,9 @@
--- A QP7 record: how long it is by its second byte, when it cannot be read, and what is said then of the bytes that are absent.
+-- A QP7 record: how long it is by its second byte, when it cannot be read, and how many bytes are absent then.
 -- Assumes nothing.
-use Prim.Native.Nat.{ℕ, _+_, _-_, _%_, _≤_}
-use mathlib.Core.Path.{_≡_}
+use Prim.Native.Nat.{ℕ, _+_, _-_}
 use mathlib.Core.Bool.{cond}
 use lib.Dec.{leb}
 use Rattle.blocks.specs.Headers.{flagOf}
-use Rattle.refusals.specs.declared.Refusal.{Refusal}
 use Rattle.refusals.specs.Numbers.{lacking}
 use Rattle.refusals.specs.Said.{Said, answers, refusal, demandBy}
 use Rattle.qp7.specs.declared.Record.{Record}
@@ -26,15 +24,6 @@ recordAt s long q =
     demandBy (leb (q + 2) long) (lacking 4 q 0 (absentOf long q 2))
     (demandBy (leb (q + recordSize (s (q + 1))) long) (lacking 5 q (recordSize (s (q + 1))) (absentOf long q (recordSize (s (q + 1)))))
     (answers (recordSize (s (q + 1)))))
-
--- what a refusal says of a stream of so many bytes. By 5: the record has that size by the byte after its place, it would end so many bytes past
--- the stream's end, which are an even number and at least one, and two at least are there. By 4: none of the two bytes is there that would
--- tell the size
-pub record Lacks (s : ℕ → ℕ) (long : ℕ) (why : Refusal) : Type 0 where
-  pub cut : why .number ≡ 5
-      → (why .size ≡ recordSize (s (why .beside + 1))) × (why .beside + why .size ≡ long + why .absent) × (1 ≤ why .absent)
-      × (why .absent % 2 ≡ 0) × (why .absent + 2 ≤ why .size)
-  pub untold : why .number ≡ 4 → (why .size ≡ 0) × (why .beside + 2 ≡ long + why .absent) × (why .absent ≡ 2)
 
 -- the code's answer, read so
 abbrev pub recordSays : Record → Said ℕ

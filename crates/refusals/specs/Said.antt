@@ -6,7 +6,7 @@ use mathlib.Core.List.{List, [], _∷_}
 use mathlib.Core.Bool.{Bool, true, false, cond}
 use lib.Dec.{eqb}
 use Rattle.refusals.specs.declared.Refusal.{Refusal}
-use Rattle.refusals.specs.Numbers.{numbered, recordRefusals}
+use Rattle.refusals.specs.Numbers.{numbered, OnlyRecordsLack}
 
 pub data Said (A : Type 0) : Type 0 where
   answers : A → Said A
@@ -34,8 +34,7 @@ unfoldable pub isAmong : List ℕ → ℕ → Bool
 isAmong [] n = false
 isAmong (one ∷ rest) n = cond (eqb one n) true (isAmong rest n)
 
--- whatever refusal is said has one of these numbers; and if it is not of a record, it has no size and nothing is absent
+-- whatever refusal is said has one of these numbers; and unless it is of a record, it tells no size and nothing absent
 pub record Numbered {A : Type 0} (numbers : List ℕ) (said : Said A) : Type 0 where
   pub among : (why : Refusal) → said ≡ refusal why → isAmong numbers (why .number) ≡ true
-  pub nothing-absent : (why : Refusal) → said ≡ refusal why → isAmong recordRefusals (why .number) ≡ false
-      → (why .size ≡ 0) × (why .absent ≡ 0)
+  pub only-records-lack : (why : Refusal) → said ≡ refusal why → OnlyRecordsLack why

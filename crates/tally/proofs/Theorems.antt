@@ -1,26 +1,27 @@
 -- What holds of `tally` for every file, beyond the contract or drawn from it. Each statement stands under a sentence that says it; the
 -- laws that carry them are in the files beside this one. Assumes nothing.
-use Prim.Native.Nat.{ℕ, _+_, _*_}
-use mathlib.Core.Path.{_≡_, refl, sym, ap, _∙_, subst}
+use Prim.Native.Nat.{ℕ, _+_}
+use mathlib.Core.Path.{_≡_, refl, sym, ap, _∙_}
 use mathlib.Core.List.{List}
-use mathlib.Core.Bool.{true, false, not}
+use mathlib.Core.Bool.{not}
 use mathlib.Core.Logic.{_⊎_, ⊎-elim}
 use Rattle.tables.specs.Settled.{SettledResult}
-use Rattle.tables.proofs.Cases.{never}
 use Rattle.blocks.specs.Headers.{Bytes}
 use Rattle.refusals.specs.declared.Refusal.{Refusal}
+use Rattle.refusals.specs.Numbers.{OfRecord}
 use Rattle.refusals.specs.Said.{answers, refusal, isAmong, Numbered}
 use Rattle.refusals.proofs.Said.{not-both, by-onward, went-on, for-the-answer, only-one, readFrom}
+use Rattle.refusals.proofs.Numbered.{not-of-record}
 use Rattle.magic.specs.Magics.{namesDss}
 use Rattle.whole.specs.declared.Recording.{Recording}
 use Rattle.whole.specs.Admissions.{admission, announcedBy, streamIn}
-use Rattle.whole.proofs.Refusing.{fileRefusals, admitting}
+use Rattle.whole.proofs.Refusing.{admitting}
 use Rattle.sp.proofs.ReadLists.{ds2-packets, dss-packets}
 use Rattle.qp.specs.Segments.{segmentsFrom}
 use Rattle.qp.specs.Handed.{shortOf, missingFrom}
 use Rattle.qp.proofs.Kept.{totals-add-up, handed-or-missing}
-use Rattle.qp7.specs.Records.{Lacks}
 use Rattle.qp7.specs.Walk.{gatheredFrom}
+use Rattle.qp7.specs.Lacking.{Lacks}
 use Rattle.qp7.proofs.Keeping.{records-many}
 use Rattle.qp7.proofs.Lacking.{gathered-lacks}
 use Rattle.tally.specs.declared.HandedOut.{HandedOut}
@@ -93,32 +94,27 @@ module _ (f : List ℕ) (figures : Figures) (says : tallied f ≡ answers figure
       (records-many f rec (w .0) (w .1) ∙ sym (c .announced-are))
 
 -- what is handed out is refused for a record only
-untold : (kind : FileKind) (f : List ℕ) (rec : Recording) {why : Refusal} → Bytes f → handedBy kind f rec ≡ refusal why
-    → Lacks (streamIn f rec) (506 * rec .blocks) why
-untold DssSp f rec bytes e = absurd (not-both (sym e))
-untold Ds2Sp f rec bytes e = absurd (not-both (sym e))
-untold Ds2Qp f rec bytes e = absurd (not-both (sym e))
-untold Ds2Qp7 f rec bytes e =
+handed-lacks : (kind : FileKind) (f : List ℕ) (rec : Recording) {why : Refusal} → Bytes f → handedBy kind f rec ≡ refusal why
+    → Lacks f rec why
+handed-lacks DssSp f rec bytes e = absurd (not-both (sym e))
+handed-lacks Ds2Sp f rec bytes e = absurd (not-both (sym e))
+handed-lacks Ds2Qp f rec bytes e = absurd (not-both (sym e))
+handed-lacks Ds2Qp7 f rec bytes e =
     by-onward (gatheredFrom f rec) (λ g. answers (recordsOut (streamIn f rec) (g .records))) e (λ stopped. gathered-lacks f rec bytes stopped)
     (λ g came r. absurd (not-both (sym r)))
 
 -- A file that the tally refuses by 4 or 5 was admitted, and the refusal says how much is missing, as that of the whole reading does.
-pub tally-lacks : (f : List ℕ) → Bytes f → (why : Refusal) → tallied f ≡ refusal why → (why .number ≡ 4) ⊎ (why .number ≡ 5)
-    → (rec : Recording) × (admission f (namesDss f) (not (namesDss f)) ≡ answers rec) × Lacks (streamIn f rec) (506 * rec .blocks) why
+pub tally-lacks : (f : List ℕ) → Bytes f → (why : Refusal) → tallied f ≡ refusal why → OfRecord (why .number)
+    → (rec : Recording) × (admission f (namesDss f) (not (namesDss f)) ≡ answers rec) × Lacks f rec why
 unfolding tallied isAmong
 tally-lacks f bytes why e of-record =
     let dss = namesDss f in
     by-onward (admission f dss (not dss)) (λ rec. countedAs (kindIn dss f rec) f rec) e
-    (λ turned.
-    let there = admitting f dss (not dss) .among why turned in
-    absurd
-    (⊎-elim (λ four. never (subst (λ (n : ℕ). isAmong fileRefusals n ≡ true) four there) refl)
-    (λ five. never (subst (λ (n : ℕ). isAmong fileRefusals n ≡ true) five there) refl)
-    of-record))
+    (λ turned. absurd (not-of-record (admitting f dss (not dss)) refl refl turned of-record))
     (λ rec taken rest. (
       rec,
       taken,
-      by-onward (handedBy (kindIn dss f rec) f rec) _ rest (λ here. untold (kindIn dss f rec) f rec bytes here) (λ out came r. absurd (not-both (sym r))),
+      by-onward (handedBy (kindIn dss f rec) f rec) _ rest (λ here. handed-lacks (kindIn dss f rec) f rec bytes here) (λ out came r. absurd (not-both (sym r))),
     ))
 
 -- A refusal is by 1, 2, 3, 4 or 5; and by another than 4 and 5 it has no size, and nothing is absent.

@@ -160,7 +160,7 @@ static void sentences(void)
         const char *sentence;
     } records[] = {
         {{.refusal = 4, .beside = 506, .size = 0, .absent = 2},
-         "a record should begin at place 506 of the payload stream: 2 of its first two bytes are missing"},
+         "a record should begin at place 506 of the payload stream: 2 of its first 2 bytes are missing"},
         {{.refusal = 5, .beside = 504, .size = 56, .absent = 54},
          "a record of 56 bytes at place 504 of the payload stream: 54 bytes are missing"},
     };

@@ -286,7 +286,7 @@ impl Ds2QpStreamDemuxer {
     /// Keeps a piece; no frames come before the end. Refusal 2, and what was there is kept.
     pub fn push(&mut self, data: &[u8]) -> Result<Vec<Vec<u8>>> {
         if data.len() > LIMIT - self.data.len() {
-            return Err(Refusal { number: Refusal::LIMIT, beside: LIMIT as u64, size: 0, absent: 0 });
+            return Err(Refusal::by(Refusal::LIMIT, LIMIT as u64));
         }
         self.data.extend_from_slice(data);
         Ok(Vec::new())

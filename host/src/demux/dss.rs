@@ -33,7 +33,7 @@ impl DssSpStreamDemuxer {
         let kind = u64::from(version);
         // Kind 0 would open a reader, of DS2.
         let fed = match version {
-            0 => Err(Refusal { number: Refusal::KIND, beside: kind, size: 0, absent: 0 }),
+            0 => Err(Refusal::by(Refusal::KIND, kind)),
             _ => Fed::open(kind),
         };
         Self { fed }

@@ -1,4 +1,4 @@
--- `numbers::of_packets` meets its contract: a refusal or the packets, in four numbers.
+-- `numbers::of_packets` meets its contract: a refusal or the packets, in six numbers.
 -- Assumes nothing.
 use mathlib.Core.Path.{ap, _∙_, sym}
 use Rattle.sp.specs.Outcome.{demuxedSays}

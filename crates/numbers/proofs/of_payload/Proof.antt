@@ -1,4 +1,4 @@
--- `numbers::of_payload` meets its contract: a refusal or the place, in four numbers.
+-- `numbers::of_payload` meets its contract: a refusal or the place, in six numbers.
 -- Assumes nothing.
 use mathlib.Core.Path.{ap, _∙_, sym}
 use Rattle.whole.specs.Payload.{payloadSays}

@@ -1,4 +1,4 @@
--- `numbers::of_records` meets its contract: a refusal or the totals, in four numbers.
+-- `numbers::of_records` meets its contract: a refusal or the totals, in six numbers.
 -- Assumes nothing.
 use mathlib.Core.Path.{ap, _∙_, sym}
 use Rattle.qp7.specs.Outcome.{demuxedSays}

@@ -1,4 +1,4 @@
--- `numbers::of_stand` meets its contract: a refusal, or where the frame stands, in four numbers.
+-- `numbers::of_stand` meets its contract: a refusal, or where the frame stands, in six numbers.
 -- Assumes nothing.
 use mathlib.Core.Path.{ap, _∙_, sym}
 use Rattle.frames.specs.Fetch.{fetchedSays}

@@ -1,4 +1,4 @@
--- `numbers::of_step` meets its contract: what was said and the frames owed, in four numbers.
+-- `numbers::of_step` meets its contract: what was said and the frames owed, in six numbers.
 -- Assumes nothing.
 use mathlib.Core.Path.{ap, _∙_, sym}
 use Rattle.sp.specs.Outcome.{demuxedSays}

@@ -1,4 +1,4 @@
--- `numbers::of_tally` meets its contract: a refusal or the figures, in nine numbers.
+-- `numbers::of_tally` meets its contract: a refusal or the figures, in eleven numbers.
 -- Assumes nothing.
 use mathlib.Core.Path.{ap, _∙_, sym}
 use Rattle.tally.specs.Tallies.{talliedSays}

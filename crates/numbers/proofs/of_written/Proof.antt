@@ -1,4 +1,4 @@
--- `numbers::of_written` meets its contract: a refusal or the bytes, in four numbers.
+-- `numbers::of_written` meets its contract: a refusal or the bytes, in six numbers.
 -- Assumes nothing.
 use mathlib.Core.Path.{ap, _∙_, sym}
 use Rattle.writing.specs.Outcome.{writtenSays}
