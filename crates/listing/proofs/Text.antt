@@ -3,7 +3,7 @@
 use Prim.Native.Nat.{ℕ, _+_, _*_, _^_, _≤_, _<_}
 use mathlib.Core.Path.{_≡_, refl, sym, ap, _∙_, subst}
 use mathlib.Core.List.{List, [], _∷_, _++_}
-use mathlib.Core.Bool.{true, false}
+use mathlib.Core.Bool.{Bool, cond}
 use native.Mathlib.Omega.{arith}
 use borrow.Author.Tests.{le-leb, lt-leb}
 use lib.ListN.{length, getD, set, length-append, length-take, List·getD-append}
@@ -47,15 +47,10 @@ pub put-more : (n : ℕ) (rest : List ℕ) {line line′ line″ : List ℕ} {at
 unfolding spacedAll
 put-more n rest p q = put-join p q
 
--- the end of a refusal's line, where a record is refused and where not
-module _ (why : Refusal) {line line′ : List ℕ} {at end : ℕ} where
-  pub put-two : isAmong recordRefusals (why .number) ≡ true → Put (spacedAll (why .size ∷ why .absent ∷ [])) at line line′ end
-      → Put (spacedAll (lackOf why)) at line line′ end
-  put-two of-record p = rw of-record p
-
-  pub put-none : isAmong recordRefusals (why .number) ≡ false → Put (spacedAll []) at line line′ end
-      → Put (spacedAll (lackOf why)) at line line′ end
-  put-none other p = rw other p
+-- the end of a refusal's line, as the test for a record's has told
+pub put-told : (why : Refusal) {line line′ : List ℕ} {at end : ℕ} {of-record : Bool} → isAmong recordRefusals (why .number) ≡ of-record
+    → Put (spacedAll (cond of-record (why .size ∷ why .absent ∷ []) [])) at line line′ end → Put (spacedAll (lackOf why)) at line line′ end
+put-told why told p = rw told p
 
 -- a text from the front on is the whole line
 pub put-lists : {text line line′ : List ℕ} {end : ℕ} → Put text 0 line line′ end → Lists text line line′ end

@@ -17,6 +17,7 @@ use Rattle.detect.specs.declared.Kind.the-variants.{Qp7}
 use Rattle.whole.specs.Admissions.{announcedBy, ds2Admission}
 use Rattle.frames.specs.Start.{framesStart}
 use Rattle.qp7.specs.Records.{recordAt}
+use Rattle.qp7.specs.Lacking.{Stops}
 use Rattle.qp7.specs.Walk.{Gathered, nothing, noted, raised, closing, reads, withBlock, gatheredTo, gatheredFrom, qp7Reading}
 use Rattle.qp7.proofs.Closing.{closing-records}
 use Rattle.qp7.proofs.Reading.{reads-keep}
@@ -50,7 +51,7 @@ module _ {P : Gathered → Type 0} (f : List ℕ) (a n : ℕ) (kept : Kept f a n
       block-keeps-it b (omega arith) (w .0) g (w .2) (walk-keeps-it b (omega arith) (w .0) (w .1))
 
   -- of m records from g on so many are read, and the next one is refused, where P holds
-  pub record StopsIn (m : ℕ) (g : Gathered) (why : Refusal) : Type 0 where
+  record StopsIn (m : ℕ) (g : Gathered) (why : Refusal) : Type 0 where
     pub read : ℕ
     pub few : read < m
     pub here : Gathered
@@ -75,32 +76,40 @@ module _ {P : Gathered → Type 0} (f : List ℕ) (a n : ℕ) (kept : Kept f a n
         refused = later .refused;
       })
 
-  -- where the walk stops: in a block that it came to
-  pub record Stopped (b : ℕ) (why : Refusal) : Type 0 where
-    pub block : ℕ
-    pub block-before : block < b
-    pub before : Gathered
-    pub came-to : gatheredTo f a n block ≡ answers before
-    pub stops : StopsIn (countOf f a block) (raised (framesStart block (firstOf f a block)) before) why
+  -- where the walk stops a record is refused, and P holds
+  pub record Stopped (why : Refusal) : Type 0 where
+    pub here : Gathered
+    pub holds : P here
+    pub stops : Stops f a n (here .place)
+    pub refused : recordAt (streamAt f a n) (506 * n) (here .place) ≡ refusal why
 
-  pub walk-stops : (b : ℕ) → b ≤ n → {why : Refusal} → gatheredTo f a n b ≡ refusal why → Stopped b why
+  pub walk-stops : (b : ℕ) → b ≤ n → {why : Refusal} → gatheredTo f a n b ≡ refusal why → Stopped why
   unfolding gatheredTo
   walk-stops zero h e = absurd (not-both (sym e))
   walk-stops (suc b) h {why} e =
-      by-onward {X = Stopped (suc b) why} (gatheredTo f a n b) (withBlock f a n b) e
-      (λ earlier.
-      let s = walk-stops b (omega arith) earlier in
-      record { block = s .block; block-before = omega (arith, s .block-before); before = s .before; came-to = s .came-to; stops = s .stops })
+      by-onward {X = Stopped why} (gatheredTo f a n b) (withBlock f a n b) e (λ earlier. walk-stops b (omega arith) earlier)
       (λ g came here.
       by-equal (countOf f a b) 0 (λ none. absurd (not-both (sym here ∙ silent-is f a n b g none)))
       (λ some.
+      let start = raised (framesStart b (firstOf f a b)) g in
+      let p = kept .by-a-start b (omega arith) g (walk-keeps-it b (omega arith) g came) in
+      let s = stop-in (countOf f a b) start (sym (announcing-is f a n b g some) ∙ here) p in
       record {
-        block = b;
-        block-before = omega arith;
-        before = g;
-        came-to = came;
-        stops = stop-in (countOf f a b) (raised (framesStart b (firstOf f a b)) g) (sym (announcing-is f a n b g some) ∙ here)
-            (kept .by-a-start b (omega arith) g (walk-keeps-it b (omega arith) g came));
+        here = s .here;
+        holds = s .holds;
+        stops =
+            record {
+              block = b;
+              block-there = omega arith;
+              before = g;
+              came-to = came;
+              read = s .read;
+              more-announced = s .few;
+              here = s .here;
+              reads-to = s .reads-to;
+              place-is = refl;
+            };
+        refused = s .refused;
       }))
 
 -- n records more

@@ -52,7 +52,7 @@ standing-kept f a n bytes =
     }
 
 -- what is said of a record at an even place, where the walk stops
-lacks-there : (f : List ℕ) (rec : Recording) (q : ℕ) {why : Refusal} → Stops f rec q → q % 2 ≡ 0 → q ≤ 506 * rec .blocks
+lacks-there : (f : List ℕ) (rec : Recording) (q : ℕ) {why : Refusal} → Stops f (rec .start .0) (rec .blocks) q → q % 2 ≡ 0 → q ≤ 506 * rec .blocks
     → recordAt (streamIn f rec) (506 * rec .blocks) q ≡ refusal why → Lacks f rec why
 unfolding recordAt
 lacks-there f rec q stops even inside e =
@@ -91,18 +91,5 @@ gathered-lacks f rec bytes e =
     by-onward (gatheredTo f a n n) (λ g. answers (closing g)) e
     (λ stopped.
     let w = walk-stops {P = Stands n} f a n (standing-kept f a n bytes) n (omega arith) stopped in
-    let there = w .stops in
-    lacks-there f rec (there .here .place)
-    (record {
-      block = w .block;
-      block-there = w .block-before;
-      before = w .before;
-      came-to = w .came-to;
-      read = there .read;
-      more-announced = there .few;
-      here = there .here;
-      reads-to = there .reads-to;
-      place-is = refl;
-    })
-    (there .holds .0) (there .holds .1) (there .refused))
+    lacks-there f rec (w .here .place) (w .stops) (w .holds .0) (w .holds .1) (w .refused))
     (λ g came r. absurd (not-both (sym r)))

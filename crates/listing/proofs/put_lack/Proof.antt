@@ -3,7 +3,7 @@
 use mathlib.Core.Path.{sym, _∙_}
 use borrow.Author.Needs.{needs}
 use borrow.Author.Tests.{not-true, not-false}
-use Rattle.listing.proofs.Text.{put-more, put-end, put-two, put-none}
+use Rattle.listing.proofs.Text.{put-more, put-end, put-told}
 use Rattle.listing.proofs.put_lack.Statement.{statement}
 use Rattle.listing.proofs.put_lack.Tie as tie
 
@@ -23,7 +23,7 @@ returns : tie.Need-returns
 returns c =
     let end = c .before .before in
     let test = end .before .before .before in
-    put-none (test .before .before .before .args .why) (sym (test .before .is-of-record .ensures) ∙ not-true _ (test .if1 .taken)) (put-end (end .put-text .ensures))
+    put-told (test .before .before .before .args .why) (sym (test .before .is-of-record .ensures) ∙ not-true _ (test .if1 .taken)) (put-end (end .put-text .ensures))
 
 put-number-requires : tie.Need-put-number-requires
 put-number-requires c κs = search needs
@@ -46,7 +46,7 @@ returns-2 c =
     let second = end .before .before .before .before .before in
     let first = second .before .before .before .before in
     let test = first .before .before in
-    put-two (test .before .before .before .args .why) (sym (test .before .is-of-record .ensures) ∙ not-false _ (test .if1 .left))
+    put-told (test .before .before .before .args .why) (sym (test .before .is-of-record .ensures) ∙ not-false _ (test .if1 .left))
     (put-more _ _ (first .put-number .ensures .0)
     (put-more _ _ (second .put-number2 .ensures .0) (put-end (end .put-text2 .ensures))))
 
