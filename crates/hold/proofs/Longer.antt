@@ -36,7 +36,7 @@ use Rattle.hold.proofs.Carries.{carry-goes-past}
 reads-kept : (one other : Reading) → Extends one other → (k : ℕ) → k < total one
     → (walkAt one k .place ≡ walkAt other k .place) × (walkAt one k .swap ≡ walkAt other k .swap)
 reads-kept one other x k h =
-    let fixed = reads-fixed (one .stream) (other .stream) 0 0 (one .runs) k in
+    let fixed = reads-fixed (one .stream) (other .stream) (one .carry) (one .carry) (one .runs) k in
     let alike = x .runs-alike (other .stream) k h in
     (fixed .0 ∙ ap (λ (w : Walk). w .place) alike, fixed .1 ∙ ap (λ (w : Walk). w .swap) alike)
 
@@ -44,19 +44,19 @@ reads-kept one other x k h =
 carries-kept : (one other : Reading) → Extends one other → (k : ℕ) → k ≤ total one → ((j : ℕ) → j < k → CompleteAt one j)
     → carryAt one k ≡ carryAt other k
 carries-kept one other x zero h all =
-    carry-at-first (one .stream) 0 (one .runs) ∙ sym (carry-at-first (other .stream) 0 (other .runs))
+    carry-at-first (one .stream) (one .carry) (one .runs) ∙ x .carried ∙ sym (carry-at-first (other .stream) (other .carry) (other .runs))
 carries-kept one other x (suc k) h all =
     let s = one .stream in
     let t = other .stream in
     let complete = all k (omega arith) in
     let stands : walkAt one k ≡ walkAt other k =
-    stands-alike s t (one .long) (x .agree) 0 (one .runs) k (omega arith) (λ j l. all j (omega arith)) ∙ x .runs-alike t k (omega arith) in
+    stands-alike s t (one .long) (x .agree) (one .carry) (one .runs) k (omega arith) (λ j l. all j (omega arith)) ∙ x .runs-alike t k (omega arith) in
     let w = walkAt one k in
     rw (← add-one k)
-    (carry-goes-past s 0 (one .runs) k (omega arith)
+    (carry-goes-past s (one .carry) (one .runs) k (omega arith)
     ∙ same-carry (w .swap) (w .carry) _ _ (same-read s t (one .long) (w .swap) (w .place) (x .agree) complete)
     ∙ ap (λ (v : Walk). step t v .carry) stands
-    ∙ sym (carry-goes-past t 0 (other .runs) k (omega (arith, x .more))))
+    ∙ sym (carry-goes-past t (other .carry) (other .runs) k (omega (arith, x .more))))
 
 -- more blocks, of a longer file
 module _ (dss : Bool) (f p : List ℕ) (a n m : ℕ) (whole : Whole f a n) (more : n ≤ m) where

@@ -83,7 +83,7 @@ module _ (reading : Reading) where
         ap (λ (i : ℕ). steps (reading .stream) w i .carry) last
         ∙ ap (λ (v : Walk). v .carry) (steps-more (reading .stream) w t)
         ∙ ap (λ (v : Walk). step (reading .stream) v .carry) (sym (stands t (omega arith)))
-        ∙ sym (carry-goes-past (reading .stream) 0 (reading .runs) (k + t) (omega arith))
+        ∙ sym (carry-goes-past (reading .stream) (reading .carry) (reading .runs) (k + t) (omega arith))
         ∙ ap (carryAt reading) next
 
     pub part-written : (base carry : ℕ) (out out′ counts counts′ : List ℕ)

@@ -28,11 +28,11 @@ module _ (f : List ℕ) (a blocks : ℕ) (s : ℕ → ℕ) (long : ℕ) (out cou
   pub record After (runs : List Run) (first carry : ℕ) (out′ counts′ : List ℕ) : Type 0 where
     pub so-far : first ≡ packetsIn runs
     pub carried : carry ≡ carryPast s 0 runs
-    pub written : Written (by s long out counts runs) out out′ counts counts′
+    pub written : Written (by s long 0 out counts runs) out out′ counts counts′
 
   after-none : After [] 0 0 out counts
   after-none =
-      record { so-far = sym packets-none; carried = sym (carry-none s 0); written = written-none s long out counts }
+      record { so-far = sym packets-none; carried = sym (carry-none s 0); written = written-none s long 0 out counts }
 
   -- one block more, which announces packets or none
   module _ (b first carry carry′ : ℕ) (out₁ out₂ counts₁ counts₂ : List ℕ) (v : After (dssRuns f a b) first carry out₁ counts₁)
@@ -48,7 +48,7 @@ module _ (f : List ℕ) (a blocks : ℕ) (s : ℕ → ℕ) (long : ℕ) (out cou
               ∙ ap (λ (c : ℕ). runEnd s c run .carry) (v .carried)
               ∙ sym (carry-joined s 0 runs (run ∷ []) ∙ carry-one s (carryPast s 0 runs) run);
           written =
-              written-more s long out counts runs run out₁ out₂ counts₁ counts₂ first carry′ (v .so-far) (v .written)
+              written-more s long 0 out counts runs run out₁ out₂ counts₁ counts₂ first carry′ (v .so-far) (v .written)
               (subst (λ (c : ℕ). RunWritten s long (runBegin c run) first (countOf f a b) out₁ out₂ counts₁ counts₂ carry′) (v .carried) r);
         }
 
@@ -64,7 +64,7 @@ module _ (f : List ℕ) (a blocks : ℕ) (s : ℕ → ℕ) (long : ℕ) (out cou
               ∙ ap (λ (k : ℕ). steps s w k .carry) zero
               ∙ ap (λ (u : Walk). u .carry) (steps-none s w)
               ∙ v .carried;
-          written = written-without s long out out₂ counts counts₂ (dssRuns f a b) (dssRun f a b) none (with-run .written);
+          written = written-without s long 0 out out₂ counts counts₂ (dssRuns f a b) (dssRun f a b) none (with-run .written);
         }
 
     one-more : After (dssRuns f a (b + 1)) (first + countOf f a b) carry′ out₂ counts₂
@@ -99,7 +99,7 @@ module _ (f : List ℕ) (a blocks : ℕ) (s : ℕ → ℕ) (long : ℕ) (out cou
       (arith, v .done .so-far, dss-packets f a b, ap (λ (u : Run). u .count) is, announced-more f a b, announced-upto f a (b + 1) blocks (omega arith))
 
   pub blocks-end : {b first carry : ℕ} {out′ counts′ : List ℕ} → blocks ≤ b → Blockwise b first carry out′ counts′
-      → Written (by s long out counts (dssRuns f a blocks)) out out′ counts counts′
+      → Written (by s long 0 out counts (dssRuns f a blocks)) out out′ counts counts′
   blocks-end {b} {first} {carry} {out′} {counts′} h v =
       let all : b ≡ blocks = omega (arith, v .within) in
-      subst (λ (n : ℕ). Written (by s long out counts (dssRuns f a n)) out out′ counts counts′) all (v .done .written)
+      subst (λ (n : ℕ). Written (by s long 0 out counts (dssRuns f a n)) out out′ counts counts′) all (v .done .written)

@@ -1,7 +1,7 @@
 -- What a longer file keeps: as long as every read so far is complete, the reading stands where it stands in the longer one.
 -- Assumes nothing.
 use Prim.Native.Nat.{ℕ, zero, suc, _+_, _*_, _-_, _≤_, _<_}
-use mathlib.Core.Path.{_≡_, sym, ap, _∙_, subst}
+use mathlib.Core.Path.{_≡_, refl, sym, ap, _∙_, subst}
 use mathlib.Core.List.{List, [], _∷_, _++_}
 use native.Mathlib.Numerals.{add-one}
 use native.Mathlib.Nat.{not-suc-le-zero}
@@ -65,17 +65,20 @@ module _ (s t : ℕ → ℕ) (n : ℕ) (agree : Agree s t n) where
           (stands-later s carry run rest (run .count + j) (omega arith) ∙ ap (standsAt s (runEnd s carry run .carry) rest) number)
           (all (run .count + j) (omega arith))
 
--- one reading extends another: its stream agrees as far as the other's goes, and it goes by the same runs as far as they go
+-- one reading extends another: its stream agrees as far as the other's goes, it begins with the same carry, and goes by the same runs as far as
+-- they go
 pub record Extends (one other : Reading) : Type 0 where
   pub agree : Agree (one .stream) (other .stream) (one .long)
   pub longer : one .long ≤ other .long
   pub more : total one ≤ total other
-  pub runs-alike : (s : ℕ → ℕ) (k : ℕ) → k < total one → standsAt s 0 (one .runs) k ≡ standsAt s 0 (other .runs) k
+  pub carried : one .carry ≡ other .carry
+  pub runs-alike : (s : ℕ → ℕ) (k : ℕ) → k < total one
+      → standsAt s (one .carry) (one .runs) k ≡ standsAt s (other .carry) (other .runs) k
 
 -- a packet is the same in both if its read, and those of all before it, are complete
 pub same-upto : (one other : Reading) → Extends one other → (k : ℕ) → k < total one → ((j : ℕ) → j ≤ k → CompleteAt one j) → SameAt one other k
 same-upto one other x k h all =
-    let stands = stands-alike (one .stream) (other .stream) (one .long) (x .agree) 0 (one .runs) k h all ∙ x .runs-alike (other .stream) k h in
+    let stands = stands-alike (one .stream) (other .stream) (one .long) (x .agree) (one .carry) (one .runs) k h all ∙ x .runs-alike (other .stream) k h in
     let same = same-at (one .stream) (other .stream) (one .long) (other .long) (walkAt one k) (x .agree) (x .longer) (all k (omega arith)) in
     record {
       there = omega (arith, x .more);
@@ -126,18 +129,19 @@ module _ (f p : List ℕ) (a n m : ℕ) (whole : Whole f a n) (more : n ≤ m) w
 
   of-the-longer : (runs runs′ : List Run) → packetsIn runs ≡ announcedIn f a n → packetsIn runs′ ≡ announcedIn (f ++ p) a m
       → ((s : ℕ → ℕ) (k : ℕ) → k < packetsIn runs → standsAt s 0 runs k ≡ standsAt s 0 runs′ k)
-      → Extends (record { stream = streamAt f a n; long = 506 * n; runs = runs })
-      (record { stream = streamAt (f ++ p) a m; long = 506 * m; runs = runs′ })
+      → Extends (record { stream = streamAt f a n; long = 506 * n; carry = 0; runs = runs })
+      (record { stream = streamAt (f ++ p) a m; long = 506 * m; carry = 0; runs = runs′ })
   of-the-longer runs runs′ one other alike =
       record {
         agree = λ q h. longer-agrees f p a n m q whole more h;
         longer = omega arith;
         more = omega (arith, one, other, announced-more-or-same);
+        carried = refl;
         runs-alike = alike;
       }
 
-  pub dss-extends : Extends (record { stream = streamAt f a n; long = 506 * n; runs = dssRuns f a n })
-      (record { stream = streamAt (f ++ p) a m; long = 506 * m; runs = dssRuns (f ++ p) a m })
+  pub dss-extends : Extends (record { stream = streamAt f a n; long = 506 * n; carry = 0; runs = dssRuns f a n })
+      (record { stream = streamAt (f ++ p) a m; long = 506 * m; carry = 0; runs = dssRuns (f ++ p) a m })
   dss-extends =
       of-the-longer (dssRuns f a n) (dssRuns (f ++ p) a m) (dss-packets f a n) (dss-packets (f ++ p) a m)
       (λ s k h.
@@ -147,8 +151,8 @@ module _ (f p : List ℕ) (a n m : ℕ) (whole : Whole f a n) (more : n ≤ m) w
       ap (λ (runs : List Run). runs ++ rest .0) (runs-kept f p a n whole) ∙ sym (rest .1) ∙ ap (dssRuns (f ++ p) a) number in
       sym (stands-before s 0 (dssRuns f a n) (rest .0) k h) ∙ ap (λ (runs : List Run). standsAt s 0 runs k) joined)
 
-  pub ds2-extends : Extends (record { stream = streamAt f a n; long = 506 * n; runs = ds2Runs f a n })
-      (record { stream = streamAt (f ++ p) a m; long = 506 * m; runs = ds2Runs (f ++ p) a m })
+  pub ds2-extends : Extends (record { stream = streamAt f a n; long = 506 * n; carry = 0; runs = ds2Runs f a n })
+      (record { stream = streamAt (f ++ p) a m; long = 506 * m; carry = 0; runs = ds2Runs (f ++ p) a m })
   ds2-extends =
       of-the-longer (ds2Runs f a n) (ds2Runs (f ++ p) a m) (ds2-packets f a n) (ds2-packets (f ++ p) a m)
       (λ s k h.
@@ -164,8 +168,8 @@ module _ (f p : List ℕ) (a n m : ℕ) (whole : Whole f a n) (more : n ≤ m) w
 pub recordings-extend : (f p : List ℕ) (a b : ℕ) (rec rec′ : Recording) (runs : List ℕ → ℕ → ℕ → List Run) → recordingAt f a ≡ rec → a ≡ b
     → recordingAt (f ++ p) b ≡ rec′ → Sound f rec → Sound (f ++ p) rec′
     → ((n m : ℕ) → Whole f (rec .start .0) n → n ≤ m
-    → Extends (record { stream = streamAt f (rec .start .0) n; long = 506 * n; runs = runs f (rec .start .0) n })
-    (record { stream = streamAt (f ++ p) (rec .start .0) m; long = 506 * m; runs = runs (f ++ p) (rec .start .0) m }))
+    → Extends (record { stream = streamAt f (rec .start .0) n; long = 506 * n; carry = 0; runs = runs f (rec .start .0) n })
+    (record { stream = streamAt (f ++ p) (rec .start .0) m; long = 506 * m; carry = 0; runs = runs (f ++ p) (rec .start .0) m }))
     → Extends (readingOf f rec runs) (readingOf (f ++ p) rec′ runs)
 recordings-extend f p a b rec rec′ runs one same other here there law =
     let start : rec .start .0 ≡ rec′ .start .0 =

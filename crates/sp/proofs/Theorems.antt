@@ -180,12 +180,21 @@ dss-reads-at f rec b i there h =
     let here = dss-stands s f a (rec .blocks) b i there h in
     (ap (λ (u : Walk). u .place) here ∙ steps-place s w i, ap (λ (u : Walk). u .swap) here ∙ steps-swap s w i)
 
--- The carry is 0 at first, and what a packet's read carries on is what the next packet is given, in another block too.
+-- A whole reading begins with nothing carried.
+pub nothing-carried : (f : List ℕ) (r : Reading) → (dssReading f ≡ answers r → r .carry ≡ 0) × (ds2Reading f ≡ answers r → r .carry ≡ 0)
+unfolding dssReading ds2Reading
+nothing-carried f r = (
+  (λ e. ap (λ (x : Reading). x .carry) (sym (read-by f (admission f true false) dssRuns r e .2))),
+  (λ e. ap (λ (x : Reading). x .carry) (sym (read-by f (ds2Admission f Sp) ds2Runs r e .2))),
+)
+
+-- The first packet is given what the reading begins with, and what a packet's read carries on is what the next packet is given, in another
+-- block too.
 pub carry-runs-on : (r : Reading)
-    → (walkAt r 0 .carry ≡ 0)
+    → (walkAt r 0 .carry ≡ r .carry)
     × ((k : ℕ) → k + 1 < total r
     → walkAt r (k + 1) .carry ≡ carryAfter (walkAt r k .swap) (walkAt r k .carry) (from (r .stream) (walkAt r k .place)))
-carry-runs-on r = (carry-at-first (r .stream) 0 (r .runs), (λ k h. carry-goes-on (r .stream) 0 (r .runs) k h))
+carry-runs-on r = (carry-at-first (r .stream) (r .carry) (r .runs), (λ k h. carry-goes-on (r .stream) (r .carry) (r .runs) k h))
 
 -- Of two files that are read as DS2 SP from the same audio start, the longer beginning with the shorter: a packet whose read is
 -- complete in the shorter has the same bytes and count under the same number in the longer.

@@ -95,9 +95,9 @@ module _ (s : ℕ → ℕ) (long : ℕ) (w : Walk) (base : ℕ) (out counts : Li
       let all : n ≡ count = omega (arith, r .within) in
       subst (λ (m : ℕ). RunWritten s long w base m out out′ counts counts′ (v .carry)) all (r .written)
 
-module _ (s : ℕ → ℕ) (long : ℕ) (out counts : List ℕ) where
+module _ (s : ℕ → ℕ) (long at-first : ℕ) (out counts : List ℕ) where
   abbrev pub by : List Run → Reading
-  by runs = record { stream = s; long = long; runs = runs }
+  by runs = record { stream = s; long = long; carry = at-first; runs = runs }
 
   pub written-none : Written (by []) out out counts counts
   written-none =
@@ -109,7 +109,7 @@ module _ (s : ℕ → ℕ) (long : ℕ) (out counts : List ℕ) where
   -- one run more, which goes on with what the others carried
   pub written-more : (runs : List Run) (run : Run) (out₁ out₂ counts₁ counts₂ : List ℕ) (base carry : ℕ) → base ≡ packetsIn runs
       → Written (by runs) out out₁ counts counts₁
-      → RunWritten s long (runBegin (carryPast s 0 runs) run) base (run .count) out₁ out₂ counts₁ counts₂ carry
+      → RunWritten s long (runBegin (carryPast s at-first runs) run) base (run .count) out₁ out₂ counts₁ counts₂ carry
       → Written (by (runs ++ (run ∷ []))) out out₂ counts counts₂
   written-more runs run out₁ out₂ counts₁ counts₂ base carry at so-far r =
       record {
@@ -131,19 +131,19 @@ module _ (s : ℕ → ℕ) (long : ℕ) (out counts : List ℕ) where
       more = runs ++ (run ∷ [])
 
       begin : Walk
-      begin = runBegin (carryPast s 0 runs) run
+      begin = runBegin (carryPast s at-first runs) run
 
       all : packetsIn more ≡ base + run .count
       all = omega (arith, packets-joined runs (run ∷ []), packets-of run [], packets-none)
 
-      before : (k : ℕ) → k < base → standsAt s 0 more k ≡ standsAt s 0 runs k
-      before k h = stands-before s 0 runs (run ∷ []) k (omega arith)
+      before : (k : ℕ) → k < base → standsAt s at-first more k ≡ standsAt s at-first runs k
+      before k h = stands-before s at-first runs (run ∷ []) k (omega arith)
 
-      here : (k : ℕ) → k < run .count → steps s begin k ≡ standsAt s 0 more (base + k)
+      here : (k : ℕ) → k < run .count → steps s begin k ≡ standsAt s at-first more (base + k)
       here k h =
-          sym (stands-first s (carryPast s 0 runs) run [] k h)
-          ∙ sym (stands-after s 0 runs (run ∷ []) k)
-          ∙ ap (λ (m : ℕ). standsAt s 0 more (m + k)) (sym at)
+          sym (stands-first s (carryPast s at-first runs) run [] k h)
+          ∙ sym (stands-after s at-first runs (run ∷ []) k)
+          ∙ ap (λ (m : ℕ). standsAt s at-first more (m + k)) (sym at)
 
       earlier : (j : ℕ) → j < 42 * base → joinedByteAt (by runs) j ≡ joinedByteAt (by more) j
       earlier j h = ap (λ (u : Walk). byteOf s u (j % 42)) (sym (before (j / 42) (omega arith)))
@@ -153,20 +153,20 @@ module _ (s : ℕ → ℕ) (long : ℕ) (out counts : List ℕ) where
           let number : base + j / 42 ≡ (42 * base + j) / 42 = omega arith in
           let byte : j % 42 ≡ (42 * base + j) % 42 = omega arith in
           joined-is s begin j
-          ∙ ap (λ (u : Walk). byteOf s u (j % 42)) (here (j / 42) (omega arith) ∙ ap (standsAt s 0 more) number)
-          ∙ ap (byteOf s (standsAt s 0 more ((42 * base + j) / 42))) byte
+          ∙ ap (λ (u : Walk). byteOf s u (j % 42)) (here (j / 42) (omega arith) ∙ ap (standsAt s at-first more) number)
+          ∙ ap (byteOf s (standsAt s at-first more ((42 * base + j) / 42))) byte
 
 -- a last run of no packets may as well not be there
-pub written-without : (s : ℕ → ℕ) (long : ℕ) (out out′ counts counts′ : List ℕ) (runs : List Run) (run : Run) → run .count ≤ 0
-    → Written (by s long out counts (runs ++ (run ∷ []))) out out′ counts counts′ → Written (by s long out counts runs) out out′ counts counts′
-written-without s long out out′ counts counts′ runs run none w =
+pub written-without : (s : ℕ → ℕ) (long at-first : ℕ) (out out′ counts counts′ : List ℕ) (runs : List Run) (run : Run) → run .count ≤ 0
+    → Written (by s long at-first out counts (runs ++ (run ∷ []))) out out′ counts counts′ → Written (by s long at-first out counts runs) out out′ counts counts′
+written-without s long at-first out out′ counts counts′ runs run none w =
     record {
       packets-are =
-          leaves-as (joinedByteAt (by s long out counts runs))
-          (λ j h. ap (λ (u : Walk). byteOf s u (j % 42)) (stands-before s 0 runs (run ∷ []) (j / 42) (omega arith)))
+          leaves-as (joinedByteAt (by s long at-first out counts runs))
+          (λ j h. ap (λ (u : Walk). byteOf s u (j % 42)) (stands-before s at-first runs (run ∷ []) (j / 42) (omega arith)))
           (leaves-to (omega (arith, all)) (w .packets-are));
       counts-are =
-          leaves-as (fileCountAt (by s long out counts runs)) (λ k h. ap (countAt long) (stands-before s 0 runs (run ∷ []) k h))
+          leaves-as (fileCountAt (by s long at-first out counts runs)) (λ k h. ap (countAt long) (stands-before s at-first runs (run ∷ []) k h))
           (leaves-to all (w .counts-are));
     }
   where
@@ -182,9 +182,9 @@ written-nothing reading out counts none =
     }
 
 -- a reading of one run
-pub written-one : (s : ℕ → ℕ) (long : ℕ) (out out′ counts counts′ : List ℕ) (run given : Run) (carry : ℕ) → given ≡ run
-    → RunWritten s long (runBegin 0 given) 0 (given .count) out out′ counts counts′ carry
-    → Written (by s long out counts (run ∷ [])) out out′ counts counts′
-written-one s long out out′ counts counts′ run given carry is r =
-    written-more s long out counts [] run out out′ counts counts′ 0 carry (sym packets-none) (written-none s long out counts)
-    (rw (carry-none s 0) (subst (λ (u : Run). RunWritten s long (runBegin 0 u) 0 (u .count) out out′ counts counts′ carry) is r))
+pub written-one : (s : ℕ → ℕ) (long at-first : ℕ) (out out′ counts counts′ : List ℕ) (run given : Run) (carry : ℕ) → given ≡ run
+    → RunWritten s long (runBegin at-first given) 0 (given .count) out out′ counts counts′ carry
+    → Written (by s long at-first out counts (run ∷ [])) out out′ counts counts′
+written-one s long at-first out out′ counts counts′ run given carry is r =
+    written-more s long at-first out counts [] run out out′ counts counts′ 0 carry (sym packets-none) (written-none s long at-first out counts)
+    (rw (carry-none s at-first) (subst (λ (u : Run). RunWritten s long (runBegin at-first u) 0 (u .count) out out′ counts counts′ carry) is r))

@@ -1,4 +1,5 @@
--- A whole SP reading of a file: its payload stream, how long that is, and the runs of its reads. What it hands out follows.
+-- An SP reading of a file: its payload stream, how long that is, what is carried before its first packet, and the runs of its reads. What it
+-- hands out follows. A whole reading begins with nothing carried.
 -- Assumes nothing.
 use Prim.Native.Nat.{ℕ, _*_, _/_, _%_}
 use mathlib.Core.List.{List}
@@ -19,15 +20,16 @@ use Rattle.sp.specs.ReadLists.{dssRuns, ds2Runs}
 pub record Reading : Type 0 where
   pub stream : ℕ → ℕ
   pub long : ℕ
+  pub carry : ℕ
   pub runs : List Run
 
 -- how many packets it has
 abbrev pub total : Reading → ℕ
 total reading = packetsIn (reading .runs)
 
--- where it stands before packet k, the carry being 0 at first
+-- where it stands before packet k
 abbrev pub walkAt : Reading → ℕ → Walk
-walkAt reading k = standsAt (reading .stream) 0 (reading .runs) k
+walkAt reading k = standsAt (reading .stream) (reading .carry) (reading .runs) k
 
 -- what is carried before packet k
 abbrev pub carryAt : Reading → ℕ → ℕ
@@ -51,12 +53,13 @@ CompleteAt reading k = Complete (reading .long) (walkAt reading k)
 abbrev pub joinedByteAt : Reading → ℕ → ℕ
 joinedByteAt reading j = byteOf (reading .stream) (walkAt reading (j / 42)) (j % 42)
 
--- a recording read by a list of runs
+-- a recording read whole, by a list of runs
 abbrev pub readingOf : List ℕ → Recording → (List ℕ → ℕ → ℕ → List Run) → Reading
 readingOf f rec runs =
     record {
       stream = streamAt f (rec .start .0) (rec .blocks);
       long = 506 * rec .blocks;
+      carry = 0;
       runs = runs f (rec .start .0) (rec .blocks);
     }
 

@@ -48,7 +48,7 @@ ends-past false m n left h l = omega arith
 
 -- a reading by these runs
 abbrev pub by : (ℕ → ℕ) → ℕ → List Run → Reading
-by s long runs = record { stream = s; long = long; runs = runs }
+by s long runs = record { stream = s; long = long; carry = 0; runs = runs }
 
 module _ (s : ℕ → ℕ) (long : ℕ) (run : Run) where
   -- where packet k of the run begins and ends

@@ -16,7 +16,7 @@ ghost use Rattle.tally.specs.HandedOut.{packetsOut};
 // What a run hands out of a stream of so many bytes: every packet, those short whose read is not complete.
 fn of_run(run: Run, long: usize) -> HandedOut
     requires { ⌜ (run .count ≤ 2 ^ 48) × (long ≤ 2 ^ 48) ⌝ }
-    ensures counted { λ r. ⌜ ((s : ℕ → ℕ) → r ≡ packetsOut (record { stream = s; long = long; runs = run ∷ [] })) ⌝ }
+    ensures counted { λ r. ⌜ ((s : ℕ → ℕ) → r ≡ packetsOut (record { stream = s; long = long; carry = 0; runs = run ∷ [] })) ⌝ }
     ensures few { λ r. ⌜ (r .many ≡ run .count) × (r .short ≤ run .count) × (r .bytes ≤ 42 * run .count) ⌝ }
 {
     let begin = run.start.0;

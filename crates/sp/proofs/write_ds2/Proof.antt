@@ -36,7 +36,7 @@ returns-2 : tie.Need-returns-2
 returns-2 c =
     let w = c .before .before .before .before in
     let s = w .before .before .before .before .before .before .before .before .before in
-    written-one _ _ _ _ _ _ _ _ _ (cc (w .before .before .before .swap-flag .ensures, s .pre .1)) (w .write-run .ensures)
+    written-one _ _ _ _ _ _ _ _ _ _ (cc (w .before .before .before .swap-flag .ensures, s .pre .1)) (w .write-run .ensures)
 
 pub write-ds2-spec : {M : Type 1} → statement M
 write-ds2-spec =
