@@ -759,6 +759,7 @@ def main():
     sys.stdout.write("".join(entries))
     summary(entries, every)
 
-if len(sys.argv) != 2:
-    sys.exit("usage: make.py SOURCE_FOLDER > list")
-main()
+if __name__ == "__main__":
+    if len(sys.argv) != 2:
+        sys.exit("usage: make.py SOURCE_FOLDER > list")
+    main()

@@ -10,7 +10,7 @@ use lib.Dec.{leb}
 use Rattle.tables.proofs.Lent.{leaves-over}
 use Rattle.refusals.specs.declared.Refusal.{Refusal}
 use Rattle.refusals.specs.Numbers.{numbered}
-use Rattle.refusals.specs.Said.{Said, answers, refusal}
+use Rattle.refusals.specs.Said.{Said, answers, refusal, onward}
 use Rattle.refusals.proofs.Said.{went-on, only-outcome-of, readFrom, asked-of}
 use Rattle.sp.specs.declared.Run.{Run}
 use Rattle.sp.specs.declared.Demuxed.{Demuxed}
@@ -57,14 +57,13 @@ is-ready f rec out counts needed readable is most h =
       counts-room = omega (arith, is);
     }
 
--- what was admitted: a refusal is passed on, and a recording goes on to be read
-module _ (f : List ℕ) (said : Said Recording) (runs : List ℕ → ℕ → ℕ → List Run) (out counts : List ℕ) where
-  pub not-taken : (why : Refusal) → refusal why ≡ said
-      → Demuxes (readBy f said runs) out out counts counts (Refused why)
+-- what was admitted: a refusal is passed on, and with a recording it goes on so
+module _ (said : Said Recording) (then : Recording → Said Reading) (out counts : List ℕ) where
+  pub not-taken : (why : Refusal) → refusal why ≡ said → Demuxes (onward said then) out out counts counts (Refused why)
   not-taken why e = rw (← e) (passed-on why out counts)
 
   pub taken : (rec : Recording) (out′ counts′ : List ℕ) (answer : Demuxed) → answers rec ≡ said
-      → Demuxes (answers (readingOf f rec runs)) out out′ counts counts′ answer → Demuxes (readBy f said runs) out out′ counts counts′ answer
+      → Demuxes (then rec) out out′ counts counts′ answer → Demuxes (onward said then) out out′ counts counts′ answer
   taken rec out′ counts′ answer e d = rw (← e) d
 
 -- a recording that was admitted can be read

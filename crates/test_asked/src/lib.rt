@@ -10,12 +10,8 @@ use test_expected::expect;
 use test_expected::expect_all;
 use test_fetched::qp_said;
 use test_fetched::qp7_said;
-use test_sums::BESIDE;
-use test_sums::NUMBER;
-use test_sums::PACKETS;
 use test_tools::digest;
 use test_tools::digest_words;
-use test_tools::sum;
 use whole::PayloadAnswer;
 
 fn format_number(format: AudioFormat) -> u64 {
@@ -39,15 +35,7 @@ pub fn detection(list: &[u8], before: Seen, file: &[u8]) -> Seen {
 
 // What a whole SP call answered and left.
 fn packets(list: &[u8], before: Seen, answer: Demuxed, out: &[u8], counts: &[u8]) -> Seen {
-    let came = test_sums::told(answer, out, counts);
-    let many = came[PACKETS] as usize;
-    let said = [
-        came[NUMBER],
-        came[BESIDE],
-        came[PACKETS],
-        digest(0, out, sum(test_tools::packet_bytes(many), 64)),
-        digest(0, counts, sum(many, 64)),
-    ];
+    let said = test_sums::left(answer, out, counts);
     expect_all(list, before, &said, 0, 5)
 }
 

@@ -105,6 +105,20 @@ pub fn told(answer: Demuxed, out: &[u8], counts: &[u8]) -> Sums {
     with_answer(none(), answer, 0, out, counts)
 }
 
+// What one answer is in five numbers: its refusal and the number beside it, its packets, and digests of the output and of the counts, which go
+// 64 places past what the call used, where all is to be as it was.
+pub fn left(answer: Demuxed, out: &[u8], counts: &[u8]) -> [u64; 5] {
+    let came = told(answer, out, counts);
+    let many = came[PACKETS] as usize;
+    [
+        came[NUMBER],
+        came[BESIDE],
+        came[PACKETS],
+        digest(0, out, test_tools::sum(packet_bytes(many), 64)),
+        digest(0, counts, test_tools::sum(many, 64)),
+    ]
+}
+
 // The whole SP call of a family.
 pub fn demux(file: &[u8], dss: bool, out: &mut [u8], counts: &mut [u8]) -> Demuxed {
     if dss {

@@ -3,8 +3,10 @@
 use mathlib.Core.Path.{sym, ap}
 use mathlib.Core.Bool.{cond}
 use denote.Ref.{now}
+use Rattle.refusals.specs.Said.{answers}
 use Rattle.whole.specs.Admissions.{admissionSays}
 use Rattle.sp.specs.ReadLists.{dssRuns, ds2Runs}
+use Rattle.sp.specs.Readings.{readingOf}
 use Rattle.sp.proofs.Outcome.{not-taken, taken}
 use borrow.Author.Needs.{needs}
 use Rattle.sp.proofs.demux.Statement.{statement}
@@ -25,7 +27,7 @@ read-requires c κs =
 returns : tie.Need-returns
 returns c =
     let a = c .before .before .before .before .before .before .args in
-    not-taken (now (a .file)) (admissionSays (a .asked)) (cond (a .dss) dssRuns ds2Runs) _ _ _ (sym (ap admissionSays (c .before .asked .given .1)))
+    not-taken (admissionSays (a .asked)) (λ rec. answers (readingOf (now (a .file)) rec (cond (a .dss) dssRuns ds2Runs))) _ _ _ (sym (ap admissionSays (c .before .asked .given .1)))
 
 same-length : tie.Need-same-length
 same-length c = search needs
@@ -38,7 +40,7 @@ returns-2 c =
     let r = c .before .before .before .before in
     let k = r .before .before .before in
     let a = k .before .before .before .before .before .before .args in
-    taken (now (a .file)) (admissionSays (a .asked)) (cond (a .dss) dssRuns ds2Runs) _ _ _ _ _ _ (sym (ap admissionSays (k .before .asked2 .given .1))) (r .read .ensures)
+    taken (admissionSays (a .asked)) (λ rec. answers (readingOf (now (a .file)) rec (cond (a .dss) dssRuns ds2Runs))) _ _ _ _ _ _ (sym (ap admissionSays (k .before .asked2 .given .1))) (r .read .ensures)
 
 pub demux-spec : {M : Type 1} → statement M
 demux-spec =
