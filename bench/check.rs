@@ -2,7 +2,7 @@
 // are measured.
 use crate::demux::ds2::DemuxedDs2;
 use crate::files::{file_place, Kind, Recording, BLOCK};
-use crate::jobs::{Job, Way};
+use crate::jobs::{Job, Way, Which, STEP};
 use crate::original;
 use ours::{Room, QP7_WORDS, QP_WORDS};
 
@@ -12,6 +12,8 @@ pub fn agree(job: Job, recording: &Recording) -> bool {
         (Way::Pieces(bytes), _) => pieces(job, bytes, recording),
         (Way::Tally, _) => tally(job, recording),
         (Way::Write, _) => written(job, recording),
+        (Way::At(which), _) => at_once(job, which, recording),
+        (Way::To(which), _) => walked(job, which, recording),
         (Way::Whole, Kind::Qp) => qp(job, recording),
         (Way::Whole, Kind::Qp7) => qp7(job, recording),
         (Way::Whole, _) => packets(job, recording),
@@ -31,7 +33,7 @@ fn original_packets(kind: Kind, file: &[u8]) -> Vec<u8> {
 
 fn packets(job: Job, recording: &Recording) -> bool {
     let mut room = job.room(recording);
-    let handed = job.by_ours(&recording.file, &mut room);
+    let handed = job.by_ours(recording, &mut room);
     handed == recording.units && room.out == original_packets(job.kind, &recording.file)
 }
 
@@ -43,6 +45,31 @@ fn pieces(job: Job, bytes: usize, recording: &Recording) -> bool {
     one == other && one.len() == 42 * recording.units
 }
 
+/// One of packets that are joined; it is to be there.
+fn packet(joined: &[u8], number: usize) -> &[u8] {
+    &joined[42 * number..][..42]
+}
+
+/// The packet is the original's of that number, in its whole reading; its read is of 42 or 40 bytes, in turn.
+fn at_once(job: Job, which: Which, recording: &Recording) -> bool {
+    let number = which.number(recording);
+    let mut room = job.room(recording);
+    job.by_ours(recording, &mut room) == 1
+        && room.out == packet(&original_packets(job.kind, &recording.file), number)
+        && usize::from(room.counts[0]) == 42 - 2 * (number % 2)
+}
+
+/// Both walks come to the packet that the original's whole reading has.
+fn walked(job: Job, which: Which, recording: &Recording) -> bool {
+    let number = which.number(recording);
+    let (mut one, mut other) = (Vec::new(), Vec::new());
+    let mut room = job.room(recording);
+    ours::walk(job.kind.reader(), &recording.file, STEP, number, &mut room, |packets| one.extend_from_slice(packets));
+    original::walk(&recording.file, STEP, number, |packets| other.extend(packets.concat()));
+    let all = original_packets(job.kind, &recording.file);
+    [one, other].iter().all(|packets| packet(packets, number) == packet(&all, number))
+}
+
 fn tally(job: Job, recording: &Recording) -> bool {
     let packets = original_packets(job.kind, &recording.file).len() / 42;
     packets == recording.units && ours::tally(&recording.file) == (packets, 0, packets)
@@ -51,7 +78,7 @@ fn tally(job: Job, recording: &Recording) -> bool {
 /// The file has as many bytes as the recording whose packets it has, and either side reads them back.
 fn written(job: Job, recording: &Recording) -> bool {
     let mut room = job.room(recording);
-    let bytes = job.by_ours(&recording.file, &mut room);
+    let bytes = job.by_ours(recording, &mut room);
     let file = &room.file[..bytes];
     let mut back = Room::for_packets(recording.units);
     bytes == recording.file.len()
@@ -67,7 +94,7 @@ fn stream(kind: Kind, file: &[u8]) -> Vec<u8> {
 
 fn qp(job: Job, recording: &Recording) -> bool {
     let mut room = job.room(recording);
-    let segments = job.by_ours(&recording.file, &mut room);
+    let segments = job.by_ours(recording, &mut room);
     let stream = stream(job.kind, &recording.file);
     let other = match original::ds2(&recording.file) {
         DemuxedDs2::QpSegments { segments, .. } => segments,

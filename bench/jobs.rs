@@ -1,8 +1,11 @@
-// What is measured: a recording of some kind, read whole, in pieces, or tallied, by either side, or written anew from its packets. It rests on
-// the crate `ours` and on the module `original`.
+// What is measured: a recording of some kind, read whole, in pieces, or tallied, by either side, or written anew from its packets; and one packet
+// of it, at once or by a walk to it. It rests on the crate `ours` and on the module `original`.
 use crate::files::{Kind, Recording};
 use crate::original;
 use ours::{Room, QP7_WORDS, QP_WORDS};
+
+/// What a walk feeds at a time.
+pub const STEP: usize = 4096;
 
 #[derive(Clone, Copy)]
 pub enum Way {
@@ -10,6 +13,35 @@ pub enum Way {
     Pieces(usize),
     Tally,
     Write,
+    At(Which),
+    To(Which),
+}
+
+/// Which packet of a recording.
+#[derive(Clone, Copy)]
+pub enum Which {
+    First,
+    Middle,
+    Last,
+}
+
+impl Which {
+    fn named(name: &str) -> Option<Which> {
+        match name {
+            "0" => Some(Which::First),
+            "middle" => Some(Which::Middle),
+            "last" => Some(Which::Last),
+            _ => None,
+        }
+    }
+
+    pub fn number(self, recording: &Recording) -> usize {
+        match self {
+            Which::First => 0,
+            Which::Middle => recording.units / 2,
+            Which::Last => recording.units - 1,
+        }
+    }
 }
 
 #[derive(Clone, Copy)]
@@ -20,7 +52,7 @@ pub struct Job {
 
 impl Job {
     /// `ds2`, `dss`, `qp`, `qp7`; with `-512` or another number behind it in pieces of so many bytes, with `-tally` tallied. `ds2-write` is
-    /// written.
+    /// written. `ds2-at-0`, `ds2-at-middle` and `ds2-at-last` are one packet at once, and with `to` in place of `at` the walk to it.
     pub fn named(name: &str) -> Option<Job> {
         let (kind, way) = name.split_once('-').unwrap_or((name, ""));
         let kind = match kind {
@@ -30,11 +62,13 @@ impl Job {
             "qp7" => Kind::Qp7,
             _ => return None,
         };
-        let way = match way {
-            "" => Way::Whole,
-            "tally" => Way::Tally,
-            "write" if kind == Kind::Ds2 => Way::Write,
-            bytes => Way::Pieces(bytes.parse().ok()?),
+        let way = match way.split_once('-').unwrap_or((way, "")) {
+            ("", "") => Way::Whole,
+            ("tally", "") => Way::Tally,
+            ("write", "") if kind == Kind::Ds2 => Way::Write,
+            ("at", which) if kind == Kind::Ds2 => Way::At(Which::named(which)?),
+            ("to", which) if kind == Kind::Ds2 => Way::To(Which::named(which)?),
+            _ => Way::Pieces(way.parse().ok()?),
         };
         Some(Job { kind, way })
     }
@@ -51,6 +85,8 @@ impl Job {
                 room
             }
             (Way::Pieces(bytes), _) => Room::for_piece(bytes),
+            (Way::At(_), _) => Room::for_packets(1),
+            (Way::To(_), _) => Room::for_piece(STEP),
             (Way::Whole, Kind::Qp) => Room::for_words(QP_WORDS * recording.units, 0),
             (Way::Whole, Kind::Qp7) => Room::for_words(recording.units, QP7_WORDS * recording.units),
             (Way::Whole, _) => Room::for_packets(recording.units),
@@ -58,11 +94,14 @@ impl Job {
     }
 
     /// Does the job by the archive, and answers what was handed out.
-    pub fn by_ours(self, file: &[u8], room: &mut Room) -> usize {
+    pub fn by_ours(self, recording: &Recording, room: &mut Room) -> usize {
+        let file = &recording.file[..];
         match (self.way, self.kind) {
             (Way::Tally, _) => ours::tally(file).0,
             (Way::Write, kind) => ours::write_ds2_sp(&file[..kind.start()], room),
             (Way::Pieces(bytes), kind) => ours::pieces(kind.reader(), file, bytes, room, |_| ()),
+            (Way::At(which), _) => ours::ds2_sp_packet(file, which.number(recording), room),
+            (Way::To(which), kind) => ours::walk(kind.reader(), file, STEP, which.number(recording), room, |_| ()),
             (Way::Whole, Kind::Ds2) => ours::ds2_sp(file, room),
             (Way::Whole, Kind::Dss) => ours::dss(file, room),
             (Way::Whole, Kind::Qp) => ours::ds2_qp(file, room),
@@ -70,12 +109,14 @@ impl Job {
         }
     }
 
-    /// Does the job by the original. It has no tally: who wants the numbers reads the whole. It writes nothing: there a copy of the packets
-    /// stands in its place.
-    pub fn by_original(self, file: &[u8], room: &mut Room) -> usize {
+    /// Does the job by the original. It has no tally: who wants the numbers reads the whole. It hands out no packet by its number: who wants it
+    /// walks there. It writes nothing: there a copy of the packets stands in its place.
+    pub fn by_original(self, recording: &Recording, room: &mut Room) -> usize {
+        let file = &recording.file[..];
         match self.way {
             Way::Write => copied(&room.out, &mut room.file),
             Way::Pieces(bytes) => original::pieces(self.kind, file, bytes, |_| ()),
+            Way::At(which) | Way::To(which) => original::walk(file, STEP, which.number(recording), |_| ()),
             Way::Whole | Way::Tally => original::whole(self.kind, file),
         }
     }

@@ -18,10 +18,9 @@ use std::process::ExitCode;
 /// Repeats the job by one side. With 0 repetitions all that is not measured is left: the recording and the lent memory are made.
 fn count(job: Job, recording: &files::Recording, side: &str, repetitions: usize) -> Option<usize> {
     let mut room = job.room(recording);
-    let file = &recording.file[..];
     match side {
-        "ours" => Some((0..repetitions).map(|_| job.by_ours(file, &mut room)).sum()),
-        "rust" => Some((0..repetitions).map(|_| job.by_original(file, &mut room)).sum()),
+        "ours" => Some((0..repetitions).map(|_| job.by_ours(recording, &mut room)).sum()),
+        "rust" => Some((0..repetitions).map(|_| job.by_original(recording, &mut room)).sum()),
         _ => None,
     }
 }

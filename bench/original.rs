@@ -28,20 +28,35 @@ pub fn ds2(file: &[u8]) -> DemuxedDs2 {
 pub fn pieces(kind: Kind, file: &[u8], bytes: usize, show: impl FnMut(&[Vec<u8>])) -> usize {
     if kind == Kind::Dss {
         let mut demuxer = DssSpStreamDemuxer::new(file[0]);
-        let sum = fed(file, bytes, |piece| demuxer.push(piece).expect("a piece"), show);
+        let sum = fed(file, bytes, usize::MAX, |piece| demuxer.push(piece).expect("a piece"), show);
         return sum + demuxer.finish().expect("a complete recording").len();
     }
     let mut demuxer = Ds2SpStreamDemuxer::new();
-    let sum = fed(file, bytes, |piece| demuxer.push(piece).expect("a piece"), show);
+    let sum = fed(file, bytes, usize::MAX, |piece| demuxer.push(piece).expect("a piece"), show);
     sum + demuxer.finish().expect("a complete recording").len()
 }
 
-fn fed(file: &[u8], bytes: usize, mut push: impl FnMut(&[u8]) -> Vec<Vec<u8>>, mut show: impl FnMut(&[Vec<u8>])) -> usize {
+/// Feeds one stream demuxer of DS2 SP until the packet of this number has come out, and answers how many packets did.
+pub fn walk(file: &[u8], bytes: usize, number: usize, show: impl FnMut(&[Vec<u8>])) -> usize {
+    let mut demuxer = Ds2SpStreamDemuxer::new();
+    fed(file, bytes, number, |piece| demuxer.push(piece).expect("a piece"), show)
+}
+
+fn fed(
+    file: &[u8],
+    bytes: usize,
+    number: usize,
+    mut push: impl FnMut(&[u8]) -> Vec<Vec<u8>>,
+    mut show: impl FnMut(&[Vec<u8>]),
+) -> usize {
     let mut sum = 0;
     for piece in file.chunks(bytes) {
         let packets = push(piece);
         show(&packets);
         sum += packets.len();
+        if sum > number {
+            break;
+        }
     }
     sum
 }

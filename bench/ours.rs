@@ -51,6 +51,11 @@ pub fn ds2_sp(file: &[u8], room: &mut Room) -> usize {
     raw::demux_ds2_sp(file, &mut room.out, &mut room.counts).expect("a DS2 SP recording")
 }
 
+/// One packet, by its number: how many are handed out.
+pub fn ds2_sp_packet(file: &[u8], number: usize, room: &mut Room) -> usize {
+    raw::ds2_sp_packet(file, number, &mut room.out, &mut room.counts).expect("a packet of a DS2 SP recording")
+}
+
 /// How many segments: their table is `first`.
 pub fn ds2_qp(file: &[u8], room: &mut Room) -> usize {
     raw::demux_ds2_qp(file, &mut room.first).expect("a QP recording").0
@@ -73,14 +78,28 @@ pub fn tally(file: &[u8]) -> (usize, usize, usize) {
 }
 
 /// Feeds one reader of this kind, ends it strictly, and answers how many packets came out. What each piece brought is shown.
-pub fn pieces(kind: u64, file: &[u8], bytes: usize, room: &mut Room, mut show: impl FnMut(&[u8])) -> usize {
+pub fn pieces(kind: u64, file: &[u8], bytes: usize, room: &mut Room, show: impl FnMut(&[u8])) -> usize {
     let mut reader = raw::open(kind).expect("a kind of reader");
+    let sum = fed(&mut reader, file, bytes, usize::MAX, room, show);
+    raw::strict_end(&mut reader).0.expect("a complete recording");
+    sum
+}
+
+/// Feeds one reader of this kind until the packet of this number has come out, and answers how many packets did.
+pub fn walk(kind: u64, file: &[u8], bytes: usize, number: usize, room: &mut Room, show: impl FnMut(&[u8])) -> usize {
+    let mut reader = raw::open(kind).expect("a kind of reader");
+    fed(&mut reader, file, bytes, number, room, show)
+}
+
+fn fed(reader: &mut raw::Reader, file: &[u8], bytes: usize, number: usize, room: &mut Room, mut show: impl FnMut(&[u8])) -> usize {
     let mut sum = 0;
     for piece in file.chunks(bytes) {
-        let packets = raw::piece(&mut reader, piece, &mut room.out, &mut room.counts).0.expect("a piece");
+        let packets = raw::piece(reader, piece, &mut room.out, &mut room.counts).0.expect("a piece");
         show(&room.out[..PACKET * packets]);
         sum += packets;
+        if sum > number {
+            break;
+        }
     }
-    raw::strict_end(&mut reader).0.expect("a complete recording");
     sum
 }

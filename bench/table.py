@@ -1,5 +1,6 @@
-"""Measures every job of target/bench/bench by both sides, and prints one table: x86-64 instructions for each unit, and time where the
-machine is x86-64. Arguments: quick, check, write; bench/run says what they do. Rests on what bench/build built, and on bench/targets.txt."""
+"""Measures every job of target/bench/bench by both sides, and prints two tables: x86-64 instructions for each unit, and those of the ways to one
+packet; and time where the machine is x86-64. Arguments: quick, check, write; bench/run says what they do. Rests on what bench/build built, and on
+bench/targets.txt."""
 import datetime
 import os
 import platform
@@ -30,6 +31,10 @@ ROWS = [
     ("dss-tally", "tally of DSS", "packet", True),
     ("ds2-write", "writing DS2 SP", "packet", True),
 ]
+# one packet of DS2 SP: the end of its jobs' names, and which it is
+PACKETS = [("0", "0"), ("middle", "the middle one"), ("last", "the last one")]
+# a way to it: the beginning of the job's name, the side, and what it is
+WAYS = [("ds2-at-", "ours", "ours at once"), ("ds2-to-", "ours", "ours walking"), ("ds2-to-", "rust", "the Rust walking")]
 RECORDINGS = """\
 The recordings, each with payload bytes that look random, and a last block that announces only what is complete, so that nothing is short:
 
@@ -41,6 +46,7 @@ The recordings, each with payload bytes that look random, and a last block that 
 - Writing: the packets of the DS2 SP recording, joined, under its header.
 """
 WRITING = "The Rust writes no files: beside writing stands a copy of the packets' bytes, without a ratio, and the target is in instructions of ours."
+SOUGHT = "One packet of a DS2 SP recording, at once by its number, or by a walk to it from the start: instructions in all, by the recording's size.\n"
 NATIVE = platform.machine() == "x86_64"
 
 
@@ -85,7 +91,7 @@ def targets():
 
 
 def figure(value):
-    return "%.0f" % value if value >= 99.95 else "%.1f" % value if value >= 9.995 else "%.2f" % value
+    return "{:,.0f}".format(value) if value >= 99.95 else "%.1f" % value if value >= 9.995 else "%.2f" % value
 
 
 def share(ratio):
@@ -137,10 +143,15 @@ def line(cells):
     return "| " + " | ".join(cells) + " |\n"
 
 
+def grid(rows):
+    """The lines of a table whose first row are its heads."""
+    return [line(cells) for cells in rows[:1] + [["---"] * len(rows[0])] + rows[1:]]
+
+
 def table(quick, counts):
     """The table's lines, the rows that miss their target, and each row's instructions of ours."""
     said, missed, spent = targets(), [], {}
-    lines = [line(heads(counts, quick)), line(["---"] * len(heads(counts, quick)))]
+    rows = [heads(counts, quick)]
     for job, name, unit, growing in ROWS:
         cells = [name, unit]
         if counts:
@@ -149,8 +160,55 @@ def table(quick, counts):
             missed += ["%s (%s)" % (name, above)] if above else []
         if NATIVE and not quick:
             cells += timed(job, said[job][0])
-        lines.append(line(cells))
-    return lines, missed, spent
+        rows.append(cells)
+    return grid(rows), missed, spent
+
+
+def blocks(size):
+    """Of a DS2 SP recording whose size is a multiple of a block's: its header is as long as three."""
+    return size // 512 - 3
+
+
+def ways_compared(end, size):
+    """The jobs whose ways lead to this packet. Each hands out the same bytes, or the driver fails."""
+    jobs = sorted({begin + end for begin, _, _ in WAYS})
+    for job in jobs:
+        units(job, size)
+    return jobs
+
+
+def ways_counted(end, size):
+    """Instructions of each way to a packet."""
+    ways_compared(end, size)
+    return [instructions(begin + end, size, side) for begin, side, _ in WAYS]
+
+
+def ways_timed(end):
+    """Microseconds of each way to a packet."""
+    spent = {job: driver(job, TIMED, "time", REPETITIONS).split() for job in ways_compared(end, TIMED)}
+    return [int(spent[begin + end][["ours", "rust"].index(side)]) / 1000 for begin, side, _ in WAYS]
+
+
+def ways_heads(sizes, counts, timing):
+    cells = ["packet"]
+    cells += ["%s, %d MiB" % (what, at // MIB) for _, _, what in WAYS for at in sizes] if counts else []
+    return cells + (["%s, %d MiB, microseconds" % (what, TIMED // MIB) for _, _, what in WAYS] if timing else [])
+
+
+def ways(quick, counts):
+    """The lines of the table of ways to one packet, and of the last one at once the instructions for each block."""
+    sizes, timing, last = [QUICK] if quick else SIZES, NATIVE and not quick, []
+    rows = [ways_heads(sizes, counts, timing)]
+    for end, name in PACKETS:
+        cells = [name]
+        if counts:
+            found = [ways_counted(end, at) for at in sizes]
+            cells += [figure(count) for way in zip(*found) for count in way]
+            last = [count[0] / blocks(at) for count, at in zip(found, sizes)]
+        cells += map(figure, ways_timed(end)) if timing else []
+        rows.append(cells)
+    told = ["\n", "At once, the last one takes %s instructions for each block.\n" % ", ".join(map(figure, last))] if counts else []
+    return ["\n", SOUGHT, "\n"] + grid(rows) + told, {"ds2-at-last": last[0]} if counts else {}
 
 
 def processor():
@@ -197,7 +255,9 @@ def write(lines):
 def main(words):
     quick, counts = "quick" in words, os.path.exists(PLUGIN)
     lines, missed, spent = table(quick, counts)
-    lines = [machine(counts), "\n"] + lines + notes(quick, counts, missed)
+    more, of_call = ways(quick, counts)
+    spent.update(of_call)
+    lines = [machine(counts), "\n"] + lines + notes(quick, counts, missed) + more
     sys.stdout.write("".join(lines))
     if "write" in words:
         write(lines)

@@ -6,13 +6,12 @@ use std::time::Instant;
 
 /// The archive's time, the original's, and that of a copy.
 pub fn times(job: Job, recording: &Recording, repetitions: usize) -> [u128; 3] {
-    let file = &recording.file[..];
     let mut room = job.room(recording);
-    let mut copy = vec![1; file.len()];
+    let mut copy = vec![1; recording.file.len()];
     [
-        best(repetitions, || job.by_ours(file, &mut room)),
-        best(repetitions, || job.by_original(file, &mut room)),
-        best(repetitions, || copied(file, &mut copy)),
+        best(repetitions, || job.by_ours(recording, &mut room)),
+        best(repetitions, || job.by_original(recording, &mut room)),
+        best(repetitions, || copied(&recording.file, &mut copy)),
     ]
 }
 

@@ -5,6 +5,7 @@
 // compare [FILES [SEED]]: so many generated files from that seed on; without arguments 100,000 of them, and the fixed parts too. What was
 // compared is printed at the end, and depends on no machine; what it took, and what is unexplained, goes to the other output.
 // compare fault NAME: one call of the original at which it faults, alone in its process.
+mod at_once;
 mod both;
 #[path = "../host/tests/common/mod.rs"]
 mod common;

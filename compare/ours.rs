@@ -71,6 +71,13 @@ pub fn demux_ds2_sp(file: &[u8], out: &mut [u8], counts: &mut [u8]) -> Numbers {
     })
 }
 
+pub fn ds2_sp_packet(file: &[u8], number: usize, out: &mut [u8], counts: &mut [u8]) -> Numbers {
+    let (out_len, counts_len) = (out.len(), counts.len());
+    numbers(unsafe {
+        raw::klov_ds2_sp_packet(file.as_ptr(), file.len(), number, out.as_mut_ptr(), out_len, counts.as_mut_ptr(), counts_len)
+    })
+}
+
 pub fn demux_ds2_qp(file: &[u8], table: &mut [u32]) -> Numbers {
     numbers(unsafe { raw::klov_demux_ds2_qp(file.as_ptr(), file.len(), table.as_mut_ptr(), table.len()) })
 }

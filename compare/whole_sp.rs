@@ -1,5 +1,6 @@
 // The whole SP readings of both kinds: numbers, packets, counts, and what was written and what was not, in rooms that are exact, ample or
-// short. Packets are the original's; counts, which it has not, are the model's.
+// short; and of DS2 the same packets at once. Packets are the original's; counts, which it has not, are the model's.
+use crate::at_once;
 use crate::both::Both;
 use crate::common::files::Dice;
 use crate::common::model::{self, refused, Kind, Packet};
@@ -101,6 +102,9 @@ pub fn compare(both: &Both, dice: &mut Dice, score: &mut Score) {
                 score.named(name, call.name, (ours::refused(refusal), true), call.refused(both.file, any));
             }
         }
+        if let (Err(refusal), false) = (expected, call.dss) {
+            at_once::refused(both.file, refusal, dice, score);
+        }
     }
 }
 
@@ -120,12 +124,15 @@ fn packets(call: Call, both: &Both, (kind, start): (Kind, usize), dice: &mut Dic
     let seen = call.ask(both.file, ample(packets, dice));
     let held = (seen.numbers, seen.out.holds(&expected.bytes), seen.counts.holds(&expected.counts));
     let theirs = if call.dss { both.dss.as_ref().map(dss_packets) } else { both.ds2.as_ref().map(sp_packets) };
-    match theirs {
+    match &theirs {
         Some((theirs, announced)) => {
-            score.original(call.name, (ours::answered(announced as u64, 0), true), (seen.numbers, seen.out.holds(&theirs)));
+            score.original(call.name, (ours::answered(*announced as u64, 0), true), (seen.numbers, seen.out.holds(theirs)));
             score.model(call.name, (numbers, true, true), held);
         }
         None => score.named(call.cut, call.name, (numbers, true, true), held),
+    }
+    if !call.dss {
+        at_once::compare(both.file, theirs.as_ref().map(|(theirs, _)| &theirs[..]), &expected, dice, score);
     }
     if packets > 0 {
         let room = lacking(packets, dice);

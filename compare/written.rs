@@ -1,6 +1,7 @@
 // DS2 SP files that are written. The original writes none: a file is held to the model's, and then read by the original and by ours, whole and
 // in pieces, and both give back the packets that it was written from, each with its full count. The other way round, the packets that the
 // original reads of a recording are written, and read by it again. It rests on the model, and on what the original makes of the files.
+use crate::at_once;
 use crate::both::Both;
 use crate::common::files::{self, Dice};
 use crate::common::model::{self, Answer, Kind, LIMIT};
@@ -9,6 +10,7 @@ use crate::lent::Lent;
 use crate::ours::{self, Reader};
 use crate::pieces::Seen;
 use crate::score::Score;
+use crate::whole_sp::Packets;
 use original::{AudioFormat, DemuxedDs2, Stream};
 
 const CALL: &str = "write_ds2_sp";
@@ -169,6 +171,7 @@ fn longest(dice: &mut Dice, score: &mut Score) {
     let numbers = ours::demux_ds2_sp(&file, &mut back, &mut counts);
     let full = counts.chunks(2).all(|pair| pair == [42, 40]);
     score.model("written: demux_ds2_sp", (ours::answered(MOST as u64, 0), true, true), (numbers, back == packets, full));
+    at_once::compare(&file, None, &Packets { bytes: packets, counts }, dice, score);
 }
 
 /// A recording with first byte 1 or 3: its packets, as the original reads them, are written under its own header, and the original reads the same

@@ -18,7 +18,8 @@
  * PACKETS. A call that hands out packets takes `out` and `counts`. Packet i of its answer is the KLOV_PACKET bytes from out[KLOV_PACKET * i]
  * on, and counts[i] says how many bytes of its read came from the recording. A read has 42 bytes, or 40 if it is swapped, and a packet
  * with fewer is short: the rest of it are zeros that nobody recorded. Which reads are swapped the block headers say, so that a count of 40
- * alone does not tell. Every call starts again at out[0] and counts[0], a reader's too; what lies past the packets handed out is as it was.
+ * alone does not tell. Every call starts again at out[0] and counts[0], a reader's too, and klov_ds2_sp_packet's one packet stands there
+ * whatever its number is; what lies past the packets handed out is as it was.
  * Room is the smaller of out_len / KLOV_PACKET and counts_len.
  *
  * A READER takes an SP recording in pieces. It reads, drains, or has ended:
@@ -72,6 +73,7 @@
  *   15  write: a header not of 1,536 bytes, or that does not begin `\x01ds2` or `\x03ds2`  0
  *   16  write: a packet that is cut short, or whose byte 40 is not 0                       its number, from 0
  *   17  write: the file would be over the limit                                            268435456
+ *   18  packet: a number that is not below the packets announced                           how many those are
  * Where several hold, the first in the call's own list is given.
  */
 #ifndef KLOVDRUN_H
@@ -134,7 +136,8 @@ enum {
     KLOV_REFUSED_OWING = 14,
     KLOV_REFUSED_WRITER_HEADER = 15,
     KLOV_REFUSED_PACKET = 16,
-    KLOV_REFUSED_FILE_LIMIT = 17
+    KLOV_REFUSED_FILE_LIMIT = 17,
+    KLOV_REFUSED_NUMBER = 18
 };
 
 /* What klov_detect_format answers. */
@@ -215,6 +218,13 @@ KLOV_MUST_USE klov_answer klov_payload(const uint8_t *file, size_t file_len, siz
  * klov_demux_dss: refusals 1, 2, 3, 8. klov_demux_ds2_sp: refusals 1, 2, 3, 11, 8. */
 KLOV_MUST_USE klov_answer klov_demux_dss(const uint8_t *file, size_t file_len, uint8_t *out, size_t out_len, uint8_t *counts, size_t counts_len);
 KLOV_MUST_USE klov_answer klov_demux_ds2_sp(const uint8_t *file, size_t file_len, uint8_t *out, size_t out_len, uint8_t *counts, size_t counts_len);
+
+/* Any packet of a DS2 SP file at once, by its number, from 0: the bytes and the count that klov_demux_ds2_sp gives under that number, the
+ * carried byte and the padding past the stream's end included. first: 1; the packet is in the first KLOV_PACKET bytes of out, its count in
+ * counts[0]. No packet before it is walked over, so that what a call costs does not grow with the number; but each call reads the count bytes
+ * of all whole blocks, some three instructions a block, for how many packets are announced, and looks for audio start and type as every whole
+ * call does. With 0 announced every number is refused, by 18 with 0. Refusals 1, 2, 3, 11, 18, 8. */
+KLOV_MUST_USE klov_answer klov_ds2_sp_packet(const uint8_t *file, size_t file_len, size_t number, uint8_t *out, size_t out_len, uint8_t *counts, size_t counts_len);
 
 /* All segments of a QP file, KLOV_QP_WORDS words each: start in the payload stream, length in bytes, frames, reset. first: segments; second:
  * frames announced. Room is table_len / KLOV_QP_WORDS. Refusals 1, 2, 3, 11, 9. */
@@ -336,6 +346,8 @@ static inline int klov_refusal_sentence(char *text, size_t room, const klov_answ
         return snprintf(text, room, "packet %llu is cut short, or its byte 40 is not 0", beside);
     case KLOV_REFUSED_FILE_LIMIT:
         return snprintf(text, room, "the file would be over the limit of %llu bytes", beside);
+    case KLOV_REFUSED_NUMBER:
+        return snprintf(text, room, "there is no packet of that number: the recording announces %llu", beside);
     default:
         return snprintf(text, room, "refusal %llu, which is not known here, with %llu", number, beside);
     }

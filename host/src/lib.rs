@@ -2,7 +2,8 @@
 //! It rests on `include/klovdrun.h`; all that crosses the boundary is in the private module `raw`.
 //!
 //! The calls of [`demux`] have the names and signatures of those in dss-codec's module of that name, so that a host can change the one
-//! for the other. What is added stands beside it: [`Packets`] with the count of file bytes of each packet, [`Reader`] for pieces without an allocation,
+//! for the other. What is added stands beside it: [`Packets`] with the count of file bytes of each packet,
+//! [`ds2_sp_packet`](demux::ds2::ds2_sp_packet) for any one of them at once, [`Reader`] for pieces without an allocation,
 //! [`places`] and [`frames`] for bytes that stay in the file, [`tally`](tally()) for a file in numbers, [`ReadSizes`], which
 //! tells short packets, and [`mux`], which makes a DS2 SP file of packets.
 //! Every call answers, or refuses by an [`error::Refusal`]; a refused call changes nothing.

@@ -83,6 +83,15 @@ extern "C" {
         counts: *mut u8,
         counts_len: usize,
     ) -> Answer;
+    pub(crate) fn klov_ds2_sp_packet(
+        file: *const u8,
+        file_len: usize,
+        number: usize,
+        out: *mut u8,
+        out_len: usize,
+        counts: *mut u8,
+        counts_len: usize,
+    ) -> Answer;
     pub(crate) fn klov_demux_ds2_qp(file: *const u8, file_len: usize, table: *mut u32, table_len: usize) -> Answer;
     pub(crate) fn klov_demux_ds2_qp7(
         file: *const u8,
@@ -212,6 +221,13 @@ pub(crate) fn demux_dss(file: &[u8], out: &mut [u8], counts: &mut [u8]) -> Resul
 pub(crate) fn demux_ds2_sp(file: &[u8], out: &mut [u8], counts: &mut [u8]) -> Result<usize> {
     checked();
     unsafe { klov_demux_ds2_sp(file.as_ptr(), file.len(), out.as_mut_ptr(), out.len(), counts.as_mut_ptr(), counts.len()) }.first()
+}
+
+/// How many packets: one.
+pub(crate) fn ds2_sp_packet(file: &[u8], number: usize, out: &mut [u8], counts: &mut [u8]) -> Result<usize> {
+    checked();
+    unsafe { klov_ds2_sp_packet(file.as_ptr(), file.len(), number, out.as_mut_ptr(), out.len(), counts.as_mut_ptr(), counts.len()) }
+        .first()
 }
 
 /// How many segments, and how many frames are announced.

@@ -24,8 +24,8 @@ fn unwritten<T>(call: impl FnOnce(&mut [u8], &mut [u8], &mut [u32], &mut [u32]) 
     refusal
 }
 
-/// What the whole calls answer of a file: DSS; SP, QP and QP7 of DS2; fetch and show, a payload, and the tally.
-fn whole(file: &[u8]) -> [Refused; 8] {
+/// What the whole calls answer of a file: DSS; SP, QP and QP7 of DS2; fetch and show, a payload, the tally, and a packet that no file has.
+fn whole(file: &[u8]) -> [Refused; 9] {
     [
         unwritten(|out, counts, _, _| dss::demux_dss_into(file, out, counts)),
         unwritten(|out, counts, _, _| ds2::demux_ds2_sp_into(file, out, counts)),
@@ -35,6 +35,7 @@ fn whole(file: &[u8]) -> [Refused; 8] {
         unwritten(|scratch, _, _, _| frames::show(file, StreamPlace(0), 0, scratch).map(|_| ())),
         told(places::payload(file, 999)),
         told(tally(file)),
+        unwritten(|out, counts, _, _| ds2::ds2_sp_packet_into(file, usize::MAX, out, counts)),
     ]
 }
 
@@ -90,11 +91,12 @@ fn fed(kind: u64, bytes: &[u8]) -> Reader {
 #[test]
 fn one_not_a_magic_of_the_call() {
     for file in [&b""[..], b"\x01ds", b"\x02ds", b"\x06dss", b"\x02ds2", b"\x03enc", &zeros(b"RIFF", 5000)] {
-        assert_eq!(whole(file), [refused(1, 0); 8]);
+        assert_eq!(whole(file), [refused(1, 0); 9]);
         assert_eq!(told(dss::demux_dss(file)), refused(1, 0));
         assert_eq!(told(ds2::demux_ds2(file)), refused(1, 0));
     }
-    assert_eq!(whole(&zeros(b"\x02dss", 2048))[1..6], [refused(1, 0); 5]);
+    let dss = whole(&zeros(b"\x02dss", 2048));
+    assert_eq!((&dss[1..6], dss[8]), (&[refused(1, 0); 5][..], refused(1, 0)));
     assert_eq!(whole(&zeros(b"\x03ds2", 2048))[0], refused(1, 0));
     assert_eq!(told(Ds2QpStreamDemuxer::new().finish()), refused(1, 0));
 }
@@ -104,9 +106,9 @@ fn two_over_the_limit() {
     const OVER: Refused = refused(2, 268_435_456);
     const OTHER: Refused = refused(1, 0);
     let mut file = zeros(b"\x02dss", LIMIT + 1);
-    assert_eq!(whole(&file), [OVER, OTHER, OTHER, OTHER, OTHER, OTHER, OVER, OVER]);
+    assert_eq!(whole(&file), [OVER, OTHER, OTHER, OTHER, OTHER, OTHER, OVER, OVER, OTHER]);
     file[..4].copy_from_slice(b"\x01ds2");
-    assert_eq!(whole(&file), [OTHER, OVER, OVER, OVER, OVER, OVER, OVER, OVER]);
+    assert_eq!(whole(&file), [OTHER, OVER, OVER, OVER, OVER, OVER, OVER, OVER, OVER]);
     assert_eq!(unmoved(&mut fed(0, &[]), |reader, out, counts| reader.piece(&file, out, counts)), OVER);
     let mut reader = fed(3, &file[..2000]);
     assert_eq!(unmoved(&mut reader, |reader, out, counts| reader.piece(&file[..LIMIT - 1999], out, counts)), OVER);
@@ -123,7 +125,7 @@ fn three_inside_the_header() {
         let answers = whole(&zeros(magic, start - 1));
         let cut = refused(3, start as u64);
         assert!(answers.iter().all(|&answer| answer == cut || answer == refused(1, 0)));
-        assert_eq!((answers[6], answers[7]), (cut, cut));
+        assert_eq!((answers[6], answers[7], answers[8]), (cut, cut, answers[1]));
         assert_eq!(answers[if magic[3] == b's' { 0 } else { 3 }], cut);
         assert_eq!(tally(&zeros(magic, start)).map(|tally| tally.blocks), Ok(0));
     }
@@ -223,6 +225,10 @@ fn eight_too_little_room() {
     assert_eq!(told(dss::demux_dss_into(&dss, &mut out[1..], &mut counts)), refused(8, 13));
     assert_eq!(told(ds2::demux_ds2_sp_into(&sp, &mut out, &mut counts[1..])), refused(8, 13));
     assert!(out.iter().chain(&counts).all(|&byte| byte == 0xA5));
+    assert_eq!(told(ds2::ds2_sp_packet_into(&sp, 12, &mut out[..41], &mut counts)), refused(8, 1));
+    assert_eq!(told(ds2::ds2_sp_packet_into(&sp, 12, &mut out, &mut [])), refused(8, 1));
+    assert!(out.iter().chain(&counts).all(|&byte| byte == 0xA5));
+    assert_eq!(ds2::ds2_sp_packet_into(&sp, 12, &mut out[..42], &mut counts[..1]), Ok(1));
     assert_eq!(ds2::demux_ds2_sp_into(&sp, &mut out, &mut counts), Ok(13));
     for (kind, file, needed) in [(0, &sp, 13), (2, &dss, 13)] {
         let answer = unmoved(&mut fed(kind, &file[..700]), |reader, out, counts| reader.piece(&file[700..], out, counts));
@@ -261,7 +267,7 @@ fn ten_no_such_kind() {
 
 #[test]
 fn eleven_another_kind_of_ds2() {
-    for (kind, refusing) in [(3, &[2, 3][..]), (6, &[1, 3]), (7, &[1, 2]), (255, &[1, 3])] {
+    for (kind, refusing) in [(3, &[2, 3][..]), (6, &[1, 3, 8]), (7, &[1, 2, 8]), (255, &[1, 3, 8])] {
         let file = blocks(b"\x01ds2", 1536, &[header(0x0F, 3, 0, 9), header(0x0F, 3, 1, kind)]);
         for &call in refusing {
             assert_eq!(whole(&file)[call], refused(11, u64::from(kind)));
@@ -301,9 +307,23 @@ fn thirteen_and_fourteen_the_strict_end() {
 }
 
 #[test]
+fn eighteen_no_packet_of_that_number() {
+    let sp = blocks(b"\x01ds2", 1536, &[header(0x0F, 3, 11, 0), header(0x8F, 3, 2, 0)]);
+    let silent = blocks(b"\x03ds2", 1536, &[header(0x8F, 3, 0, 0); 3]);
+    for (file, total) in [(&sp, 13), (&silent, 0), (&zeros(b"\x07ds2", 4096), 0)] {
+        assert_eq!(whole(file)[8], refused(18, total as u64));
+        // with no room too
+        for number in [total, total + 1, 1 << 32, usize::MAX] {
+            assert_eq!(told(ds2::ds2_sp_packet_into(file, number, &mut [], &mut [])), refused(18, total as u64));
+        }
+    }
+    assert_eq!((told(ds2::ds2_sp_packet(&sp, 12)), told(ds2::ds2_sp_packet(&sp, 13))), ([0; 4], refused(18, 13)));
+}
+
+#[test]
 fn every_refusal_has_a_sentence_of_its_own() {
     // those with a number beside them that tells something, those without, and one that there is not
-    let (telling, others) = ([2, 3, 4, 5, 7, 8, 9, 10, 11, 13, 14, 16, 17], [1, 6, 12, 15, u64::MAX]);
+    let (telling, others) = ([2, 3, 4, 5, 7, 8, 9, 10, 11, 13, 14, 16, 17, 18], [1, 6, 12, 15, u64::MAX]);
     let sentence = |number, beside, size, absent| Refusal { number, beside, size, absent }.to_string();
     let sentences: BTreeSet<String> = telling.iter().chain(&others).map(|&number| sentence(number, 0, 0, 0)).collect();
     assert_eq!(sentences.len(), telling.len() + others.len());
@@ -315,7 +335,9 @@ fn every_refusal_has_a_sentence_of_its_own() {
     for number in telling.into_iter().chain(others) {
         let told = sentence(number, 0, 43_210, 1_357);
         assert_eq!((told.contains("43210"), told.contains("1357")), (number == 5, number == 4 || number == 5), "{number}");
+        assert_eq!(told.contains("not known here"), number == u64::MAX, "{number}");
     }
     assert_eq!(sentence(5, 504, 56, 54), "a record of 56 bytes at place 504 of the payload stream: 54 bytes are missing");
     assert_eq!(sentence(4, 506, 0, 2), "a record should begin at place 506 of the payload stream: 2 of its first 2 bytes are missing");
+    assert_eq!(sentence(18, 13, 0, 0), "there is no packet of that number: the recording announces 13");
 }

@@ -233,9 +233,8 @@ fn seventeen_and_the_longest_file() {
 
     header[0] = 3;
     packets.truncate(PACKET * MOST);
-    for number in [0, 1, 12, 13, MOST / 2, MOST / 2 + 1, MOST - 2, MOST - 1] {
-        set(&mut packets, number, dice);
-    }
+    let some = [0, 1, 12, 13, MOST / 2, MOST / 2 + 1, MOST - 2, MOST - 1];
+    some.iter().for_each(|&number| set(&mut packets, number, dice));
     assert_eq!(ds2_sp_file_size(&header, &packets), Ok(LIMIT));
     let mut out = vec![0; LIMIT];
     assert_eq!(told(write_ds2_sp_into(&header, &packets, &mut out[..LIMIT - 1])), Err(refused(8, limit)));
@@ -245,6 +244,10 @@ fn seventeen_and_the_longest_file() {
     assert_eq!((told.announced, told.handed, told.short, told.blocks), (MOST, MOST, 0, 524_285));
     assert!(told.complete_as_announced(LIMIT));
     hold_longest(&out, &packets);
+    for number in some {
+        let (packet, count) = ds2::ds2_sp_packet(&out, number).unwrap();
+        assert_eq!((&packet[..], count), (&packets[PACKET * number..PACKET * (number + 1)], read_sizes(2)[number % 2]));
+    }
 }
 
 /// Reads a long file in large pieces, and holds what each brings to the packets that it was made of.

@@ -3,6 +3,7 @@ pub mod Storing
 pub mod Refusing
 pub mod Settled
 pub mod Theorems
+pub mod AtOnce
 pub mod Lacking
 pub mod Hosted
 pub mod Counted

@@ -10,11 +10,12 @@ use Rattle.blocks.specs.Places.{limit}
 use Rattle.refusals.specs.Said.{Said, isAmong, Numbered}
 use Rattle.refusals.proofs.Numbered.{answered, asked, goes-on, hasAll, wider}
 use Rattle.detect.specs.declared.Kind.the-variants.{Sp, Qp, Qp7}
-use Rattle.whole.specs.Admissions.{admission, ds2Admission}
+use Rattle.whole.specs.Admissions.{admission, ds2Admission, announcedBy}
 use Rattle.whole.specs.Payload.{placeIn, payloadPlace}
 use Rattle.whole.proofs.Refusing.{admitting, ds2-admitting}
 use Rattle.sp.specs.Readings.{Reading, total, dssReading, ds2Reading}
 use Rattle.sp.specs.Outcome.{inRoom, answered as packets}
+use Rattle.at_once.specs.Straight.{ofNumber, packetReading}
 use Rattle.qp.specs.Segments.{qpReading}
 use Rattle.qp.specs.Outcome.{inRoom as inSegments, answered as segments}
 use Rattle.qp7.specs.Walk.{gatheredFrom, qp7Reading}
@@ -25,7 +26,7 @@ use Rattle.laying.specs.Header.{isHeader}
 use Rattle.writing.specs.Outcome.{soundIn, sizeOf, writtenSize}
 use Rattle.reader.specs.State.{State, isKind, startOf, owed, fitsBy, headerDone}
 use Rattle.reader.specs.Calls.{openSaid, brings, pieceSaid, inBlock, strictBy, strictSaid, lenientSaid}
-use Rattle.klovdrun.specs.Refusals.{payloadRefusals, dssRefusals, ds2Refusals, qpRefusals, qp7Refusals, fetchRefusals, openRefusals, pieceRefusals, strictRefusals, lenientRefusals, writeRefusals}
+use Rattle.klovdrun.specs.Refusals.{payloadRefusals, dssRefusals, ds2Refusals, packetRefusals, qpRefusals, qp7Refusals, fetchRefusals, openRefusals, pieceRefusals, strictRefusals, lenientRefusals, writeRefusals}
 
 -- a payload
 pub payload-numbered : (f : List ℕ) (block : ℕ) → Numbered payloadRefusals (payloadPlace f block)
@@ -42,6 +43,12 @@ dss-numbered f = goes-on (admission f true false) _ (wider refl (admitting f tru
 pub ds2-numbered : (f : List ℕ) → Numbered ds2Refusals (ds2Reading f)
 unfolding ds2Reading isAmong hasAll
 ds2-numbered f = goes-on (ds2Admission f Sp) _ (wider refl (ds2-admitting f Sp)) (λ rec. answered _)
+
+pub packet-numbered : (f : List ℕ) (k : ℕ) → Numbered packetRefusals (packetReading f k)
+unfolding packetReading isAmong hasAll
+packet-numbered f k =
+    goes-on (ds2Admission f Sp) (λ rec. ofNumber f rec k) (wider refl (ds2-admitting f Sp))
+    (λ rec. asked (ltb k (announcedBy f rec)) 18 _ refl (answered _))
 
 pub packets-numbered : {numbers : List ℕ} (reading : Said Reading) (room : ℕ) → isAmong numbers 8 ≡ true → Numbered numbers reading
     → Numbered numbers (packets (inRoom reading room))

@@ -43,6 +43,8 @@ use Rattle.klovdrun.proofs.klov_demux_dss.Kinds as dss
 use Rattle.klovdrun.proofs.klov_demux_dss.Reads as dss-reads
 use Rattle.klovdrun.proofs.klov_demux_ds2_sp.Kinds as sp
 use Rattle.klovdrun.proofs.klov_demux_ds2_sp.Reads as sp-reads
+use Rattle.klovdrun.proofs.klov_ds2_sp_packet.Kinds as packet
+use Rattle.klovdrun.proofs.klov_ds2_sp_packet.Reads as packet-reads
 use Rattle.klovdrun.proofs.klov_demux_ds2_qp.Kinds as qp
 use Rattle.klovdrun.proofs.klov_demux_ds2_qp.Reads as qp-reads
 use Rattle.klovdrun.proofs.klov_demux_ds2_qp7.Kinds as qp7
@@ -111,6 +113,9 @@ klov-demux-dss-settled κs a x y s t p q = sp-settled p q
 
 pub klov-demux-ds2-sp-settled : SettledAs 3 sp.ps sp.r (λ κs. Two) (λ κs x s. (x, now (s .1 .0), now (s .1 .1 .0))) sp-reads.Post
 klov-demux-ds2-sp-settled κs a x y s t p q = sp-settled p q
+
+pub klov-ds2-sp-packet-settled : SettledAs 3 packet.ps packet.r (λ κs. Two) (λ κs x s. (x, now (s .1 .1 .0), now (s .1 .1 .1 .0))) packet-reads.Post
+klov-ds2-sp-packet-settled κs a x y s t p q = sp-settled p q
 
 pub klov-demux-ds2-qp-settled : SettledAs 2 qp.ps qp.r (λ κs. One) (λ κs x s. (x, now (s .1 .0))) qp-reads.Post
 klov-demux-ds2-qp-settled κs a x y s t p q =

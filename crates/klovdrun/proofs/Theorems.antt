@@ -15,6 +15,7 @@ use Rattle.sp.specs.Readings.{Reading, dssReading, ds2Reading}
 use Rattle.sp.specs.declared.Demuxed.{Demuxed}
 use Rattle.sp.specs.Outcome.{roomIn, inRoom, answered as packets, demuxedSays}
 use Rattle.sp.proofs.Theorems.{refused-changes-nothing}
+use Rattle.at_once.specs.Straight.{packetReading}
 use Rattle.qp.specs.Segments.{qpReading}
 use Rattle.qp.specs.Outcome.{width as segmentWidth, inTable, answered as segments}
 use Rattle.qp.proofs.Theorems.{refused-changes-nothing as qp-refused}
@@ -39,8 +40,8 @@ use Rattle.klovdrun.specs.declared.Opened.{Opened}
 use Rattle.numbers.specs.declared.Tallied.{Tallied}
 use Rattle.numbers.specs.Numbers.{numbersOr, oneNumber, qpNumbers, qp7Numbers, whereNumber, placeNumber, standNumbers, owingNumbers, tallyNumbers}
 use Rattle.klovdrun.specs.Wrapped.{SpCarries, QpCarries, Qp7Carries, FillCarries, WriteCarries, stepTo, OpenCarries, Advances, Tells, ofTally}
-use Rattle.klovdrun.specs.Refusals.{payloadRefusals, dssRefusals, ds2Refusals, qpRefusals, qp7Refusals, fetchRefusals, openRefusals, pieceRefusals, strictRefusals, lenientRefusals, writeRefusals}
-use Rattle.klovdrun.proofs.Refusing.{payload-numbered, dss-numbered, ds2-numbered, packets-numbered, segments-numbered, records-numbered, fetch-numbered, open-numbered, piece-numbered, strict-numbered, lenient-numbered, write-numbered}
+use Rattle.klovdrun.specs.Refusals.{payloadRefusals, dssRefusals, ds2Refusals, packetRefusals, qpRefusals, qp7Refusals, fetchRefusals, openRefusals, pieceRefusals, strictRefusals, lenientRefusals, writeRefusals}
+use Rattle.klovdrun.proofs.Refusing.{payload-numbered, dss-numbered, ds2-numbered, packet-numbered, packets-numbered, segments-numbered, records-numbered, fetch-numbered, open-numbered, piece-numbered, strict-numbered, lenient-numbered, write-numbered}
 
 tells : {A : Type 0} {numbers : List ℕ} (first second : A → ℕ) (other : ℕ) (said : Said A) → isAmong numbers 0 ≡ false → Numbered numbers said
     → {r : Answer} → r ≡ numbersOr first second other said → Tells numbers first second other said r
@@ -105,7 +106,7 @@ klov-tally-tells f {r} e = tells (λ figures. figures .announced) (λ figures. f
     as-answer (answers figures) p = ap ofTally p
     as-answer (refusal why) p = ap ofTally p
 
--- `klov_demux_dss` and `klov_demux_ds2_sp`
+-- `klov_demux_dss`, `klov_demux_ds2_sp` and `klov_ds2_sp_packet`
 module _ {reading : Said Reading} {out out′ counts counts′ : List ℕ} {r : Answer} (c : SpCarries reading out out′ counts counts′ r) where
   sp-tells : (numbers : List ℕ) → isAmong numbers 0 ≡ false → isAmong numbers 8 ≡ true → Numbered numbers reading
       → Tells numbers (λ n. n) (λ n. 0) 0 (packets (inRoom reading (roomIn out counts))) r
@@ -128,6 +129,11 @@ module _ (f : List ℕ) {out out′ counts counts′ : List ℕ} {r : Answer} wh
       → Tells ds2Refusals (λ n. n) (λ n. 0) 0 (packets (inRoom (ds2Reading f) (roomIn out counts))) r
   unfolding isAmong
   ds2-tells c = sp-tells c ds2Refusals refl refl (ds2-numbered f)
+
+  pub packet-tells : (k : ℕ) → SpCarries (packetReading f k) out out′ counts counts′ r
+      → Tells packetRefusals (λ n. n) (λ n. 0) 0 (packets (inRoom (packetReading f k) (roomIn out counts))) r
+  unfolding isAmong
+  packet-tells k c = sp-tells c packetRefusals refl refl (packet-numbered f k)
 
 -- `klov_demux_ds2_qp`
 module _ (f : List ℕ) {table table′ : List ℕ} {r : Answer} (c : QpCarries (qpReading f) table table′ r) where

@@ -15,6 +15,10 @@ dssRefusals = 1 ∷ 2 ∷ 3 ∷ 8 ∷ []
 abbrev pub ds2Refusals : List ℕ
 ds2Refusals = 1 ∷ 2 ∷ 3 ∷ 11 ∷ 8 ∷ []
 
+-- `klov_ds2_sp_packet`
+abbrev pub packetRefusals : List ℕ
+packetRefusals = 1 ∷ 2 ∷ 3 ∷ 11 ∷ 18 ∷ 8 ∷ []
+
 -- `klov_demux_ds2_qp`
 abbrev pub qpRefusals : List ℕ
 qpRefusals = 1 ∷ 2 ∷ 3 ∷ 11 ∷ 9 ∷ []

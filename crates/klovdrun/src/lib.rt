@@ -13,6 +13,7 @@ ghost use Rattle.detect.specs.Kinds.{formatType};
 ghost use Rattle.detect.specs.Format.{detected};
 ghost use Rattle.whole.specs.Payload.{payloadPlace};
 ghost use Rattle.sp.specs.Readings.{dssReading, ds2Reading};
+ghost use Rattle.at_once.specs.Straight.{packetReading};
 ghost use Rattle.qp.specs.Segments.{qpReading};
 ghost use Rattle.qp7.specs.Walk.{qp7Reading};
 ghost use Rattle.frames.specs.Frames.{frameOf};
@@ -96,6 +97,20 @@ pub extern "C" fn klov_demux_ds2_sp(file: &[u8], out: &mut [u8], counts: &mut [u
     ensures { λ r. ⌜ SpCarries (ds2Reading (now (file .entry))) (now (out .entry)) (now (out .exit)) (now (counts .entry)) (now (counts .exit)) r ⌝ }
 {
     let answer = sp::demux_ds2(file, out, counts);
+    numbers::of_packets(answer)
+}
+
+// First: 1, the packet of that number.
+#[no_mangle]
+pub extern "C" fn klov_ds2_sp_packet(
+    file: &[u8],
+    number: usize,
+    out: &mut [u8],
+    counts: &mut [u8],
+) -> Answer
+    ensures { λ r. ⌜ SpCarries (packetReading (now (file .entry)) number) (now (out .entry)) (now (out .exit)) (now (counts .entry)) (now (counts .exit)) r ⌝ }
+{
+    let answer = at_once::ds2_sp_packet(file, number, out, counts);
     numbers::of_packets(answer)
 }
 

@@ -1,6 +1,6 @@
 -- A walk packet by packet; and its place and parity with no walk.
 -- Assumes nothing.
-use Prim.Native.Nat.{ℕ, zero, suc, _+_, _*_, _/_, _%_, _≤_, _<_}
+use Prim.Native.Nat.{ℕ, zero, suc, _+_, _*_, _-_, _/_, _%_, _≤_, _<_}
 use mathlib.Core.Path.{_≡_, refl, sym, ap, _∙_}
 use mathlib.Core.Bool.{Bool, true, false, not, Bool·not-not}
 use native.Mathlib.Numerals.{add-one}
@@ -67,6 +67,15 @@ steps-carry s w k swapped =
     let before : steps s w k .swap ≡ false =
     steps-swap s w k ∙ not-true (parity (w .swap) k) (sym (parity-flips (w .swap) k) ∙ swapped) in
     rw (before, steps-place s w k)
+
+-- which stands two places before its own
+pub carry-two-before : (s : ℕ → ℕ) (w : Walk) (k : ℕ) → parity (w .swap) (suc k) ≡ true
+    → steps s w (suc k) .carry ≡ s (steps s w (suc k) .place - 2)
+carry-two-before s w k swapped =
+    let plain : parity (w .swap) k ≡ false = not-true (parity (w .swap) k) (sym (parity-flips (w .swap) k) ∙ swapped) in
+    let there : w .place + reach (w .swap) k + 40 ≡ steps s w (suc k) .place - 2 =
+    omega (arith, steps-place s w (suc k), reach-more (w .swap) k, ap readSize plain) in
+    steps-carry s w k swapped ∙ ap s there
 
 -- a walk does not go back
 reach-upto : (swap : Bool) (j k : ℕ) → j ≤ k → reach swap j ≤ reach swap k

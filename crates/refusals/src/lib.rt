@@ -154,4 +154,11 @@ impl Refusal {
     {
         Self::by(17, limit as u64)
     }
+
+    // The number is not below the packets announced, which are so many.
+    pub fn beyond(total: usize) -> Self
+        ensures { λ r. ⌜ r ≡ numbered 18 total ⌝ }
+    {
+        Self::by(18, total as u64)
+    }
 }

@@ -54,9 +54,9 @@ pub fn put(packet: Packet, number: usize, out: &mut [u8], counts: &mut [u8])
     counts[number] = packet.count;
 }
 
-// Hands out the packets of a run after `base` others, and gives back what is carried on. The bounds on place and number are far
+// For the crates above too. Hands out the packets of a run after `base` others, and gives back what is carried on. The bounds on place and number are far
 // above a file's, and keep every place below the 2^62 of read_packet.
-fn write_run(
+pub fn write_run(
     file: &[u8],
     recording: Recording,
     run: Run,
@@ -138,8 +138,8 @@ fn write_ds2(file: &[u8], recording: Recording, needed: usize, out: &mut [u8], c
     write_run(file, recording, run, 0, 0, out, counts);
 }
 
-// Whether so many packets find room in an output and a count table of these lengths.
-fn has_room(needed: usize, out: usize, counts: usize) -> bool
+// For the crates above too. Whether so many packets find room in an output and a count table of these lengths.
+pub fn has_room(needed: usize, out: usize, counts: usize) -> bool
     ensures { λ r. ⌜ r ≡ leb needed (min (out / 42) counts) ⌝ }
 {
     needed <= tables::lesser(out / PACKET, counts)

@@ -29,6 +29,7 @@ static const struct named exports[EXPORTS] = {
     [PAYLOAD] = {"klov_payload", 6, SIX, WHOLE | BIT(12)},
     [DEMUX_DSS] = {"klov_demux_dss", 6, SIX, WHOLE | BIT(8)},
     [DEMUX_DS2_SP] = {"klov_demux_ds2_sp", 6, SIX, WHOLE | BIT(11) | BIT(8)},
+    [AT_ONCE] = {"klov_ds2_sp_packet", 6, SIX, WHOLE | BIT(11) | BIT(18) | BIT(8)},
     [DEMUX_QP] = {"klov_demux_ds2_qp", 6, SIX, WHOLE | BIT(11) | BIT(9)},
     [DEMUX_QP7] = {"klov_demux_ds2_qp7", 6, SIX, WHOLE | BIT(11) | BIT(4) | BIT(5) | BIT(8) | BIT(9)},
     [FRAME_OF] = {"klov_frame", 6, SIX, 0},
@@ -102,6 +103,8 @@ static void perform_whole(const struct question *q, struct slice b, struct slice
         a = klov_demux_dss(file, len, b.at, b.len, c.at, c.len);
     else if (q->export == DEMUX_DS2_SP)
         a = klov_demux_ds2_sp(file, len, b.at, b.len, c.at, c.len);
+    else if (q->export == AT_ONCE)
+        a = klov_ds2_sp_packet(file, len, q->x, b.at, b.len, c.at, c.len);
     else if (q->export == DEMUX_QP)
         a = klov_demux_ds2_qp(file, len, (uint32_t *)b.at, b.len / WORD);
     else if (q->export == DEMUX_QP7)

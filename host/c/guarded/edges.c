@@ -150,6 +150,9 @@ static void swapped_packet(void)
     want.b = (struct slice){want_out, 84};
     want.c = (struct slice){(uint8_t[]){42, 40}, 2};
     expect(&q, &want);
+    q = (struct question){.export = AT_ONCE, .in = q.in, .x = 1, .b_len = PACKET, .c_len = 1};
+    struct answer second = model_at_once(&want, 1, PACKET, 1);
+    expect(&q, &second);
 }
 
 /* Sentences of refusals: whatever the numbers are, each fits with its end; and those of a record, word for word. */

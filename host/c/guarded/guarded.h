@@ -44,8 +44,8 @@ void check_canary(const char *what, const struct area *a, struct slice s, const 
 /* ---- ask.c: the exports, asked one at a time ---- */
 
 enum export {
-    DETECT_FORMAT, DETECT_START, DETECT_TYPE, IS_HEADER, PAYLOAD, DEMUX_DSS, DEMUX_DS2_SP, DEMUX_QP, DEMUX_QP7, FRAME_OF, FETCH,
-    SHOW, TALLY, WRITE, OPEN, PIECE, STRICT_END, LENIENT_END, EXPORTS
+    DETECT_FORMAT, DETECT_START, DETECT_TYPE, IS_HEADER, PAYLOAD, DEMUX_DSS, DEMUX_DS2_SP, AT_ONCE, DEMUX_QP, DEMUX_QP7, FRAME_OF,
+    FETCH, SHOW, TALLY, WRITE, OPEN, PIECE, STRICT_END, LENIENT_END, EXPORTS
 };
 
 /* The arguments of a call. `in` is lent to read, and `also` is, by a call that writes a file: its packets. `b` and `c` are the
@@ -131,6 +131,7 @@ struct lists {
 
 void walk_packets(struct walk *w, struct file f, const struct shape *s, uint64_t packets, uint8_t *out, uint8_t *counts);
 struct answer model_sp(struct file f, bool dss, uint64_t out_len, uint64_t counts_len, uint8_t *out, uint8_t *counts);
+struct answer model_at_once(const struct answer *whole, uint64_t number, uint64_t out_len, uint64_t counts_len);
 void model_segments(struct file f, const struct shape *s, struct lists *l);
 struct answer model_records(struct file f, const struct shape *s, struct lists *l);
 struct answer model_tally(struct file f, struct lists *l);

@@ -127,6 +127,31 @@ static void fill_all(void)
     area_allow(&big, 0, big.size, false);
 }
 
+/* Of the filled file's packets the first, some on the way, those around the stream's end, and the last. */
+static bool is_asked(uint64_t n, uint64_t announced)
+{
+    return n < 3 || n % 1000003 == 0 || (n + 2 >= MOST_PACKETS && n < MOST_PACKETS + 2) || n + 2 >= announced;
+}
+
+/* These at once, beside one walk over all of them. */
+static void packets_on_the_way(void)
+{
+    struct file f = {big.view, LIMIT};
+    struct shape s = model_shape(f, false, true);
+    struct walk w = {0};
+    for (uint64_t n = 0; n < s.announced; n++) {
+        uint8_t out[PACKET], count;
+        walk_packets(&w, f, &s, 1, out, &count);
+        if (!is_asked(n, s.announced))
+            continue;
+        struct question q = {.export = AT_ONCE, .in = {big.view, LIMIT}, .x = n, .b_len = PACKET, .c_len = 1};
+        struct answer want = answered(1, 0);
+        want.b = (struct slice){out, PACKET};
+        want.c = (struct slice){&count, 1};
+        expect(&q, &want);
+    }
+}
+
 /* Packets that end at an inaccessible page: zeros, but for some at the front, in the middle and at the end. */
 static struct slice many_packets(const struct area *many, uint64_t n)
 {
@@ -206,5 +231,6 @@ void largest(void)
     struct answer want = model_tally(f, &lists);
     area_allow(&big, 0, LIMIT, false);
     expect(&(struct question){.export = TALLY, .in = {big.view, LIMIT}}, &want);
+    packets_on_the_way();
     longest_list();
 }

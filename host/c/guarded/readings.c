@@ -92,6 +92,18 @@ struct answer model_sp(struct file f, bool dss, uint64_t out_len, uint64_t count
     return with_packets(answered(s.announced, 0), out, counts);
 }
 
+/* One packet by its number, from what the whole reading answers where there is room for all. */
+struct answer model_at_once(const struct answer *whole, uint64_t number, uint64_t out_len, uint64_t counts_len)
+{
+    if (whole->numbers[0] != 0)
+        return *whole;
+    if (number >= whole->numbers[2])
+        return refused(18, whole->numbers[2]);
+    if (packet_room(out_len, counts_len) < 1)
+        return refused(8, 1);
+    return with_packets(answered(1, 0), whole->b.at + PACKET * number, whole->c.at + number);
+}
+
 static uint64_t frames_begin(const uint8_t *head, uint64_t block)
 {
     return STREAM * block + (head[1] < 3 ? 0 : 2u * head[1] - 6);

@@ -70,6 +70,23 @@ static void packets(struct slice file, bool dss)
     }
 }
 
+/* Packets by their numbers, those around the stream's end among them, and numbers that there are not, in the rooms for one packet. */
+static void packets_at_once(struct slice file)
+{
+    static const size_t rooms[][2] = {{PACKET, 1}, {3 * PACKET + 41, 5}, {PACKET - 1, 1}, {PACKET, 0}, {0, 0}};
+    struct shape s = model_shape(seen_as(file), false, true);
+    uint64_t n = s.announced, in_stream = STREAM * s.blocks / 41;
+    const uint64_t numbers[] = {0, 1, 2, n / 2, in_stream - 1, in_stream, in_stream + 1, n - 2, n - 1, n, n + 1,
+                                (1ull << 32) + n / 2, SIZE_MAX / 41 + 1, SIZE_MAX / 2, SIZE_MAX / 2 + 1, SIZE_MAX};
+    struct answer all = model_sp(seen_as(file), false, PACKET * n, n, want_out, want_counts);
+    for (size_t i = 0; i < sizeof numbers / sizeof *numbers; i++)
+        for (size_t k = 0; k < sizeof rooms / sizeof *rooms; k++) {
+            struct answer want = model_at_once(&all, numbers[i], rooms[k][0], rooms[k][1]);
+            struct question q = {.export = AT_ONCE, .in = file, .b_len = rooms[k][0], .c_len = rooms[k][1], .x = numbers[i]};
+            expect(&q, &want);
+        }
+}
+
 /* Refusals 1, 2, 3 and 11 of a DS2 reading that takes the types of one kind. */
 static struct answer admitted(const struct shape *s, bool is_kind)
 {
@@ -190,6 +207,7 @@ void whole_calls(struct slice file)
     payloads(file);
     packets(file, true);
     packets(file, false);
+    packets_at_once(file);
     segments(file);
     records(file);
     fetches(file);

@@ -1,11 +1,11 @@
-//! DS2 recordings: SP, QP and QP7, whole, and SP in pieces. It rests on the archive's whole readings and on its reader; the names
-//! and signatures without a word on counts, tables or lent memory are dss-codec's.
+//! DS2 recordings: SP, QP and QP7, whole; of SP a packet at once, and pieces. It rests on the archive's whole readings, on its call for a
+//! packet and on its reader; the names and signatures without a word on counts, a packet's number, tables or lent memory are dss-codec's.
 use crate::error::{Refusal, Result};
 use crate::frames;
 use crate::packets::{gathered, Packets};
 use crate::places::{payload_stream, StreamPlace};
 use crate::reader::{Fed, Reader};
-use crate::{raw, FRAME, LIMIT, QP7_WORDS, QP_WORDS};
+use crate::{raw, FRAME, LIMIT, PACKET, QP7_WORDS, QP_WORDS};
 
 /// A QP segment with its bytes.
 #[derive(Clone, Debug, PartialEq, Eq)]
@@ -124,6 +124,21 @@ pub fn demux_ds2_sp_counted(data: &[u8]) -> Result<Packets> {
 /// All packets of a DS2 SP file and their counts into lent memory, without an allocation: how many. Refusals 1, 2, 3, 11, 8.
 pub fn demux_ds2_sp_into(data: &[u8], out: &mut [u8], counts: &mut [u8]) -> Result<usize> {
     raw::demux_ds2_sp(data, out, counts)
+}
+
+/// Any packet of a DS2 SP file at once, by its number, from 0: its bytes, and how many bytes of its read came from the file, as
+/// [`demux_ds2_sp_counted`] has them under that number. No packet before it is walked over, and nothing is allocated; but each call sums the
+/// count bytes of all whole blocks, so that many packets in a row are read sooner all together. Refusals 1, 2, 3, 11, 18.
+pub fn ds2_sp_packet(data: &[u8], number: usize) -> Result<([u8; PACKET], u8)> {
+    let (mut packet, mut count) = ([0; PACKET], [0]);
+    ds2_sp_packet_into(data, number, &mut packet, &mut count)?;
+    Ok((packet, count[0]))
+}
+
+/// The same into lent memory: how many packets, which is 1. It has the first [`PACKET`] bytes of `out` and the first of `counts`; what lies past
+/// them is as it was. Refusals 1, 2, 3, 11, 18, 8.
+pub fn ds2_sp_packet_into(data: &[u8], number: usize, out: &mut [u8], counts: &mut [u8]) -> Result<usize> {
+    raw::ds2_sp_packet(data, number, out, counts)
 }
 
 /// A QP segment by its places.

@@ -1,6 +1,7 @@
 // Recordings made from dice, the same on every run. It rests on docs/FORMAT.md: magics, block headers, starts.
 
 /// Dice that fall the same way for the same seed.
+#[derive(Clone)]
 pub struct Dice(u64);
 
 impl Dice {

@@ -1,0 +1,41 @@
+-- `at_once::carried_to` meets its contract: nothing for packet 0, and else a byte of the stream, which is 0 past its end.
+-- Assumes nothing.
+use native.Mathlib.Omega.{arith}
+use Rattle.at_once.proofs.Straight.{two-before, carried-first, carried-past, carried-in}
+use borrow.Author.Needs.{needs}
+use Rattle.at_once.proofs.carried_to.Statement.{statement}
+use Rattle.at_once.proofs.carried_to.Tie as tie
+
+returns : tie.Need-returns
+returns c = carried-first _ _ _ (c .if1 .taken)
+
+reach-requires : tie.Need-reach-requires
+reach-requires c κs = search needs
+
+sub-before : tie.Need-sub-before
+sub-before c =
+    let t = c .before .before in
+    let a = t .before .before .args in
+    omega (arith, c .reach .ensures, two-before (a .swap) (a .number) (t .if1 .left))
+
+mul-if2 : tie.Need-mul-if2
+mul-if2 c = search needs
+
+returns-2 : tie.Need-returns-2
+returns-2 c =
+    let r = c .before in
+    carried-past _ _ _ _ _ _ (r .before .before .if1 .left) (omega (arith, r .reach .ensures)) (c .if2 .taken)
+
+stream-byte-requires : tie.Need-stream-byte-requires
+stream-byte-requires c κs = search needs
+
+returns-3 : tie.Need-returns-3
+returns-3 c =
+    let t = c .before in
+    let r = t .before in
+    carried-in _ _ _ _ _ _ (r .before .before .if1 .left) (omega (arith, r .reach .ensures)) (t .if2 .left) (c .stream-byte .ensures)
+
+pub carried-to-spec : {M : Type 1} → statement M
+carried-to-spec =
+    tie.close
+    (tie.spec returns reach-requires sub-before mul-if2 returns-2 stream-byte-requires returns-3)

@@ -1,0 +1,5 @@
+-- The definitions of this crate, a file for each idea. They rest on those of the crates below.
+pub mod Straight
+pub mod Agreement
+-- what only contracts of inner functions speak of
+pub mod Inner
