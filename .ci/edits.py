@@ -37,9 +37,9 @@ def programs(path: str) -> list[dict]:
 
 
 def change(crate: str, where: str, old: str) -> str:
-    """What a replacement is in: a definition (or a proof), a contract, of which each clause has a line, what is imported for contracts, or code."""
+    """What a replacement is in: a definition, a proof, a contract, of which each clause has a line, what is imported for contracts, or code."""
     if not where.startswith("src/"):
-        return "definition"
+        return "proof" if where.startswith("proofs/") else "definition"
     with open(f"crates/{crate}/{where}", encoding="utf-8") as file:
         text = file.read()
     at = text.find(old)

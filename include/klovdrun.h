@@ -137,7 +137,7 @@ enum {
     KLOV_REFUSED_WRITER_HEADER = 15,
     KLOV_REFUSED_PACKET = 16,
     KLOV_REFUSED_FILE_LIMIT = 17,
-    KLOV_REFUSED_NUMBER = 18
+    KLOV_REFUSED_BEYOND = 18
 };
 
 /* What klov_detect_format answers. */
@@ -221,9 +221,10 @@ KLOV_MUST_USE klov_answer klov_demux_ds2_sp(const uint8_t *file, size_t file_len
 
 /* Any packet of a DS2 SP file at once, by its number, from 0: the bytes and the count that klov_demux_ds2_sp gives under that number, the
  * carried byte and the padding past the stream's end included. first: 1; the packet is in the first KLOV_PACKET bytes of out, its count in
- * counts[0]. No packet before it is walked over, so that what a call costs does not grow with the number; but each call reads the count bytes
- * of all whole blocks, some three instructions a block, for how many packets are announced, and looks for audio start and type as every whole
- * call does. With 0 announced every number is refused, by 18 with 0. Refusals 1, 2, 3, 11, 18, 8. */
+ * counts[0]. Its read is swapped if the first block's flag is set and the number is even, or it is not set and the number is odd. No packet before
+ * it is walked over, so that what a call costs does not grow with the number; but each call reads the count bytes of all whole blocks, some three
+ * instructions a block, for how many packets are announced, and looks for audio start and type as every whole call does. With 0 announced every
+ * number is refused, by 18 with 0. Beside 8 stands 1. Refusals 1, 2, 3, 11, 18, 8. */
 KLOV_MUST_USE klov_answer klov_ds2_sp_packet(const uint8_t *file, size_t file_len, size_t number, uint8_t *out, size_t out_len, uint8_t *counts, size_t counts_len);
 
 /* All segments of a QP file, KLOV_QP_WORDS words each: start in the payload stream, length in bytes, frames, reset. first: segments; second:
@@ -346,7 +347,7 @@ static inline int klov_refusal_sentence(char *text, size_t room, const klov_answ
         return snprintf(text, room, "packet %llu is cut short, or its byte 40 is not 0", beside);
     case KLOV_REFUSED_FILE_LIMIT:
         return snprintf(text, room, "the file would be over the limit of %llu bytes", beside);
-    case KLOV_REFUSED_NUMBER:
+    case KLOV_REFUSED_BEYOND:
         return snprintf(text, room, "there is no packet of that number: the recording announces %llu", beside);
     default:
         return snprintf(text, room, "refusal %llu, which is not known here, with %llu", number, beside);

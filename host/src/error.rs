@@ -38,7 +38,7 @@ impl Refusal {
     pub const WRITER_HEADER: u64 = 15;
     pub const PACKET: u64 = 16;
     pub const FILE_LIMIT: u64 = 17;
-    pub const NUMBER: u64 = 18;
+    pub const BEYOND: u64 = 18;
 }
 
 impl Refusal {
@@ -72,7 +72,7 @@ impl fmt::Display for Refusal {
             Refusal::WRITER_HEADER => write!(to, "the header is not one of 1,536 bytes that begins a DS2 recording with first byte 1 or 3"),
             Refusal::PACKET => write!(to, "packet {beside} is cut short, or its byte 40 is not 0"),
             Refusal::FILE_LIMIT => write!(to, "the file would be over the limit of {beside} bytes"),
-            Refusal::NUMBER => write!(to, "there is no packet of that number: the recording announces {beside}"),
+            Refusal::BEYOND => write!(to, "there is no packet of that number: the recording announces {beside}"),
             other => write!(to, "refusal {other}, which is not known here, with {beside}"),
         }
     }

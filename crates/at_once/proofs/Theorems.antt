@@ -4,31 +4,31 @@ use Prim.Native.Nat.{ℕ, _+_, _*_, _≤_, _<_}
 use mathlib.Core.Path.{_≡_, sym, ap, _∙_, subst}
 use mathlib.Core.List.{List}
 use native.Mathlib.Omega.{arith}
-use borrow.Author.Tests.{lt-ltb, le-ltb, le-leb, lt-leb}
+use borrow.Author.Tests.{lt-ltb, le-ltb}
 use denote.Ref.{now}
 use lib.ListN.{getD}
-use lib.Dec.{leb}
 use Rattle.tables.specs.Settled.{SettledAs}
 use Rattle.tables.specs.Lent.{Leaves}
 use Rattle.tables.proofs.Cases.{by-order}
-use Rattle.tables.proofs.Lent.{leaves-at, leaves-as, leaves-to}
+use Rattle.tables.proofs.Lent.{leaves-at}
 use Rattle.refusals.specs.declared.Refusal.{Refusal}
 use Rattle.refusals.specs.Numbers.{numbered}
-use Rattle.refusals.specs.Said.{answers, refuses, refusal, demand}
+use Rattle.refusals.specs.Said.{answers, refuses, refusal}
 use Rattle.refusals.proofs.Said.{not-both, for-the-answer, by-said, by-onward}
 use Rattle.detect.specs.declared.Kind.the-variants.{Sp}
 use Rattle.whole.specs.Admissions.{announcedBy, ds2Admission}
 use Rattle.sp.specs.declared.Demuxed.{Demuxed}
 use Rattle.sp.specs.ReadLists.{ds2Runs}
 use Rattle.sp.specs.Readings.{Reading, total, packetAt, fileCountAt, readingOf, ds2Reading}
-use Rattle.sp.specs.Outcome.{roomIn, inRoom, answered, demuxedSays, Demuxes}
+use Rattle.sp.specs.Outcome.{roomIn, demuxedSays, Demuxes}
 use Rattle.sp.specs.Written.{Written}
 use Rattle.sp.proofs.ReadLists.{ds2-packets}
 use Rattle.sp.proofs.Outcome.{read-by, refused-before, Seen, only-outcome}
-use Rattle.sp.proofs.Theorems.{accepted-writes, packets-stand, ds2-announced, room-decides}
+use Rattle.sp.proofs.Theorems.{accepted-writes, packets-stand, ds2-announced}
 use Rattle.at_once.specs.Straight.{straight, packetReading}
 use Rattle.at_once.specs.Agreement.{saidAt, OnePacket}
 use Rattle.at_once.proofs.Straight.{is-one-packet, below-total, not-below}
+use Rattle.at_once.proofs.One.{one-said, one-left}
 use Rattle.at_once.proofs.ds2_sp_packet.Kinds as packet
 use Rattle.at_once.proofs.ds2_sp_packet.Reads as packet-reads
 
@@ -79,15 +79,9 @@ module _ (f : List ℕ) (k : ℕ) where
         by-order k (total r)
         (λ h.
         let o = ds2-at-once r e h in
-        rw (o .1, e, lt-ltb k (total r) h) (one-packet (o .0) (o .2 .alone) (roomIn out counts)))
+        rw (o .1, e, lt-ltb k (total r) h) (one-said (o .0) (o .2 .alone) (roomIn out counts)))
         (λ h. rw (past-the-last r e h, e, le-ltb k (total r) h) (refused-before (roomIn out counts) (numbered 18 (total r)))))
         (λ why e. rw (refused-alike why e, e) (refused-before (roomIn out counts) why))
-      where
-        one-packet : (one : Reading) → total one ≡ 1 → (room : ℕ) → answered (inRoom (answers one) room) ≡ demand (leb 1 room) 8 1 (answers 1)
-        one-packet one alone room =
-            by-order room 1
-            (λ h. room-decides one room .1 (omega (arith, alone)) ∙ ap (refuses 8) alone ∙ simp (lt-leb 1 room h))
-            (λ h. room-decides one room .0 (omega (arith, alone)) ∙ ap answers alone ∙ simp (le-leb 1 room h))
 
     -- An answered call has put the packet of that number of the whole reading over the first 42 bytes of the output, and its file-byte count into
     -- the first entry of the table. Every other place of both is as it was, and so are the lengths.
@@ -97,24 +91,8 @@ module _ (f : List ℕ) (k : ℕ) where
     packet-handed n e =
         let w = accepted-writes (packetReading f k) out out′ counts counts′ answer d n e in
         let g = given-at-once (w .0) (w .1) in
-        let is = g .2 in
-        let here = packets-stand (w .0) out out′ counts counts′ (w .3) 0 (omega (arith, is .alone)) in (
-          g .0,
-          g .1,
-          is .there,
-          sym (w .2) ∙ is .alone,
-          leaves-as (λ i. getD (packetAt (g .0) k) i 0)
-              (λ i h.
-              let front : i ≡ 42 * 0 + i = omega arith in
-              sym (leaves-at (w .3 .packets-are) i (omega (arith, is .alone)))
-              ∙ ap (λ (j : ℕ). getD out′ j 0) front
-              ∙ here .0 i h
-              ∙ ap (λ (l : List ℕ). getD l i 0) (is .bytes))
-              (leaves-to (omega (arith, is .alone)) (w .3 .packets-are)),
-          leaves-as (λ i. fileCountAt (g .0) k)
-              (λ i h. let first : i ≡ 0 = omega arith in ap (fileCountAt (w .0)) first ∙ is .count)
-              (leaves-to (is .alone) (w .3 .counts-are)),
-        )
+        let left = one-left (w .0) (g .0) k (g .2) out out′ counts counts′ (w .3) in
+        (g .0, g .1, g .2 .there, sym (w .2) ∙ g .2 .alone, left .0, left .1)
 
     -- And where the whole call has answered too, for the same file, the packet and its count are those that it put under that number.
     pub same-as-whole : {o o′ c c′ : List ℕ} {whole : Demuxed} → Demuxes (ds2Reading f) o o′ c c′ whole → (m n : ℕ) → demuxedSays whole ≡ answers m

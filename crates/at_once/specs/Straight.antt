@@ -14,10 +14,11 @@ use Rattle.packets.specs.Walk.{reach, parity}
 use Rattle.sp.specs.declared.Run.{Run}
 use Rattle.sp.specs.Readings.{Reading}
 
--- what is carried to packet k: nothing to packet 0, and else the byte two places before its read
+-- where the byte stands that is carried to a packet k past the first: two places before its read
 abbrev pub carriedFrom : Bool → ℕ → ℕ
 carriedFrom swap k = reach swap k - 2
 
+-- what is carried to packet k: nothing to packet 0, and else that byte
 unfoldable pub carriedTo : (ℕ → ℕ) → Bool → ℕ → ℕ
 carriedTo s swap k = cond (eqb k 0) 0 (s (carriedFrom swap k))
 

@@ -19,17 +19,18 @@ ghost use Rattle.sp.specs.Inner.{Readable};
 ghost use Rattle.at_once.specs.Straight.{carriedTo, straight, ofNumber, packetReading};
 ghost use Rattle.at_once.specs.Inner.{Ready};
 
-// What is carried to the packet of this number: nothing to the first, and else the byte two places before its read.
-fn carried_to(file: &[u8], recording: Recording, swap: bool, number: usize) -> u8
+// What is carried to the packet of this number, where the first has this parity: nothing to the first, and else the byte two places before its
+// read.
+fn carried_to(file: &[u8], recording: Recording, first: bool, number: usize) -> u8
     requires { ⌜ Whole (now file) (recording .start .0) (recording .blocks) × (number ≤ 2 ^ 48) ⌝ }
-    ensures { λ r. ⌜ r ≡ carriedTo (streamIn (now (file .entry)) recording) swap number ⌝ }
+    ensures { λ r. ⌜ r ≡ carriedTo (streamIn (now (file .entry)) recording) first number ⌝ }
 {
     if number == 0 {
         return 0;
     }
     let start = recording.start;
     let blocks = recording.blocks;
-    let before = packets::reach(swap, number) - 2;
+    let before = packets::reach(first, number) - 2;
     if PAYLOAD * blocks <= before {
         return 0;
     }

@@ -31,7 +31,7 @@ pub record Carries {A : Type 0} (outcome : A → Type 0) (numbersOf : A → Answ
   pub comes : outcome answer
   pub numbers-are : r ≡ numbersOf answer
 
--- the whole readings, and a frame that is filled
+-- SP readings, whole or of one packet, the whole readings of QP and QP7, and a frame that is filled
 abbrev pub SpCarries : Said Reading → List ℕ → List ℕ → List ℕ → List ℕ → Answer → Type 0
 SpCarries reading out out′ counts counts′ r =
     Carries (Demuxes reading out out′ counts counts′) (λ answer. oneNumber (demuxedSays answer)) r

@@ -31,6 +31,7 @@ use Rattle.packets.specs.Start.{dssStart}
 use Rattle.packets.specs.Walk.{Walk, byteOf, reach, parity}
 use Rattle.packets.proofs.Packets.{whole-says, whole-if}
 use Rattle.packets.proofs.Walk.{steps-place, steps-swap}
+use Rattle.sp.specs.declared.Run.{Run}
 use Rattle.sp.specs.declared.Demuxed.{Demuxed}
 use Rattle.sp.specs.Runs.{runBegin, carryPast}
 use Rattle.sp.specs.ReadLists.{dssRun, dssRuns, ds2Run, ds2Runs}
@@ -180,12 +181,14 @@ dss-reads-at f rec b i there h =
     let here = dss-stands s f a (rec .blocks) b i there h in
     (ap (λ (u : Walk). u .place) here ∙ steps-place s w i, ap (λ (u : Walk). u .swap) here ∙ steps-swap s w i)
 
--- A whole reading begins with nothing carried.
-pub nothing-carried : (f : List ℕ) (r : Reading) → (dssReading f ≡ answers r → r .carry ≡ 0) × (ds2Reading f ≡ answers r → r .carry ≡ 0)
+-- A reading of a recording's blocks, of all or of those so far, begins with nothing carried, and so does every whole reading.
+pub nothing-carried : (f : List ℕ) → ((rec : Recording) (runs : List ℕ → ℕ → ℕ → List Run) → readingOf f rec runs .carry ≡ 0)
+    × ((r : Reading) → dssReading f ≡ answers r → r .carry ≡ 0) × ((r : Reading) → ds2Reading f ≡ answers r → r .carry ≡ 0)
 unfolding dssReading ds2Reading
-nothing-carried f r = (
-  (λ e. ap (λ (x : Reading). x .carry) (sym (read-by f (admission f true false) dssRuns r e .2))),
-  (λ e. ap (λ (x : Reading). x .carry) (sym (read-by f (ds2Admission f Sp) ds2Runs r e .2))),
+nothing-carried f = (
+  (λ rec runs. refl),
+  (λ r e. ap (λ (x : Reading). x .carry) (sym (read-by f (admission f true false) dssRuns r e .2))),
+  (λ r e. ap (λ (x : Reading). x .carry) (sym (read-by f (ds2Admission f Sp) ds2Runs r e .2))),
 )
 
 -- The first packet is given what the reading begins with, and what a packet's read carries on is what the next packet is given, in another

@@ -1,4 +1,4 @@
--- What a whole SP call answers and leaves in the two lent buffers, given its reading: refusal 8 with the packets needed, or all
+-- What an SP call answers and leaves in the two lent buffers, given its reading: refusal 8 with the packets needed, or all
 -- the packets and their counts. A refused call leaves everything as it was. Assumes nothing.
 use Prim.Native.Nat.{ℕ, _*_, _/_, min}
 use mathlib.Core.Path.{_≡_}

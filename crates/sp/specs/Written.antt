@@ -1,4 +1,4 @@
--- What a whole reading leaves in the two lent buffers.
+-- What a reading leaves in the two lent buffers.
 -- Assumes nothing.
 use Prim.Native.Nat.{ℕ, _*_}
 use mathlib.Core.List.{List}

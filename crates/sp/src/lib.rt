@@ -54,8 +54,8 @@ pub fn put(packet: Packet, number: usize, out: &mut [u8], counts: &mut [u8])
     counts[number] = packet.count;
 }
 
-// For the crates above too. Hands out the packets of a run after `base` others, and gives back what is carried on. The bounds on place and number are far
-// above a file's, and keep every place below the 2^62 of read_packet.
+// For the crates above too. Hands out the packets of a run after `base` others, and gives back what is carried on. The bounds on place and number
+// are far above a file's, and keep every place below the 2^62 of read_packet.
 pub fn write_run(
     file: &[u8],
     recording: Recording,

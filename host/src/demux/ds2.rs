@@ -136,7 +136,7 @@ pub fn ds2_sp_packet(data: &[u8], number: usize) -> Result<([u8; PACKET], u8)> {
 }
 
 /// The same into lent memory: how many packets, which is 1. It has the first [`PACKET`] bytes of `out` and the first of `counts`; what lies past
-/// them is as it was. Refusals 1, 2, 3, 11, 18, 8.
+/// them is as it was. Refusals 1, 2, 3, 11, 18, 8, the last with 1 beside it.
 pub fn ds2_sp_packet_into(data: &[u8], number: usize, out: &mut [u8], counts: &mut [u8]) -> Result<usize> {
     raw::ds2_sp_packet(data, number, out, counts)
 }

@@ -16,7 +16,7 @@ sub-before : tie.Need-sub-before
 sub-before c =
     let t = c .before .before in
     let a = t .before .before .args in
-    omega (arith, c .reach .ensures, two-before (a .swap) (a .number) (t .if1 .left))
+    omega (arith, c .reach .ensures, two-before (a .first) (a .number) (t .if1 .left))
 
 mul-if2 : tie.Need-mul-if2
 mul-if2 c = search needs
