@@ -1,6 +1,8 @@
-// A file of the list: its magic, its length, where its blocks begin, how these are filled, and their headers. Rests on the rest of this crate
-// and on test_tools.
+// A file of the list: its magic, its length, where its blocks begin, how these are filled, and their headers; and what is asked of it. Rests on
+// the rest of this crate, on test_tools and tables.
+use crate::Seen;
 use crate::next;
+use crate::read;
 
 // Which of a file's numbers is which. The first four are its magic.
 const START: usize = 5;
@@ -12,9 +14,16 @@ const SEED: usize = 7;
 const BLOCKS: usize = 8;
 
 // How long the file is, and how many numbers it has before its headers.
-pub const LONG: usize = 4;
+const LONG: usize = 4;
 
-pub const SHAPE: usize = 9;
+const SHAPE: usize = 9;
+
+// A case whose file was made: how long that is, what is asked of it, and how far the list is read.
+pub struct Made {
+    pub seen: Seen,
+    pub asked: [u64; 16],
+    pub long: usize,
+}
 
 // So many numbers of the list, put as bytes from a place on; answers up to where the list was read.
 fn put_numbers(list: &[u8], from: usize, many: usize, file: &mut [u8], place: usize) -> usize {
@@ -55,10 +64,23 @@ fn fill_by(fill: u64, seed: u64, file: &mut [u8], start: usize) {
 }
 
 // Makes the file of some numbers that stand at `from` in the list, with its headers after them; answers up to where the list was read.
-pub fn make(list: &[u8], from: usize, shape: [u64; 16], headers: usize, file: &mut [u8]) -> usize {
+fn make(list: &[u8], from: usize, shape: [u64; 16], headers: usize, file: &mut [u8]) -> usize {
     let start = shape[START] as usize;
     fill_by(shape[FILL], shape[SEED], file, start);
     let at = put_headers(list, headers, shape[BLOCKS], file, start);
     put_numbers(list, from, 4, file, 0);
     at
+}
+
+// The next case of the list, of which so many numbers are asked: its file is made at the front of the space, as far as there is room.
+pub fn next_case(list: &[u8], before: Seen, asked: usize, space: &mut [u8]) -> Made {
+    let seen = crate::with_case(list, before);
+    let shape = read(list, seen.at, SHAPE);
+    let values = shape.values;
+    let long = tables::lesser(values[LONG] as usize, space.len());
+    let from = make(list, seen.at, values, shape.at, &mut space[0..long]);
+    let case = read(list, from, asked);
+    let asked = case.values;
+    let seen = crate::read_to(seen, case.at);
+    Made { seen, asked, long }
 }

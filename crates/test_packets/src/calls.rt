@@ -1,9 +1,7 @@
 // One case: its file is made, a packet of it is asked for by its number, and what the call answers and leaves is held to the list. Rests on
 // at_once, on test_expected and test_sums, and on tables.
 use test_expected::Seen;
-use test_expected::making::LONG;
-use test_expected::making::SHAPE;
-use test_expected::read;
+use test_expected::making::next_case;
 
 // What is asked of a file, in three numbers: which packet, and how many bytes of the output and how many counts are lent.
 const WHICH: usize = 0;
@@ -44,20 +42,11 @@ fn in_room(list: &[u8], before: Seen, case: [u64; 16], file: &[u8]) -> Seen {
     )
 }
 
-// A case's file, made from numbers that end there, and asked for a packet.
-fn with_file(list: &[u8], before: Seen, shape: [u64; 16], headers: usize, file: &mut [u8]) -> Seen {
-    let from = test_expected::making::make(list, before.at, shape, headers, file);
-    let case = read(list, from, ASKED);
-    let values = case.values;
-    in_room(list, test_expected::read_to(before, case.at), values, file)
-}
-
-// The next case of the list.
+// The next case of the list, with its file.
 pub fn one_case(list: &[u8], before: Seen) -> Seen {
-    let seen = test_expected::with_case(list, before);
-    let shape = read(list, seen.at, SHAPE);
-    let values = shape.values;
     let mut space = [0u8; 67584];
-    let long = tables::lesser(values[LONG] as usize, 67584);
-    with_file(list, seen, values, shape.at, &mut space[0..long])
+    let case = next_case(list, before, ASKED, &mut space);
+    let asked = case.asked;
+    let long = tables::lesser(case.long, 67584);
+    in_room(list, case.seen, asked, &space[0..long])
 }

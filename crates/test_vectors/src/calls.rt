@@ -7,10 +7,7 @@ use crate::fed::with_pieces;
 use test_expected::Seen;
 use test_expected::expect;
 use test_expected::expect_all;
-use test_expected::making::LONG;
-use test_expected::making::SHAPE;
-use test_expected::read;
-use test_expected::read_to;
+use test_expected::making::next_case;
 use test_tools::Cuts;
 
 // What is asked of a file, in 15 numbers. The kind of a reader, and how the file is cut for it:
@@ -120,20 +117,11 @@ fn answers(list: &[u8], before: Seen, case: [u64; 16], file: &[u8]) -> Seen {
     )
 }
 
-// A case's file, made from numbers that end there, and asked about.
-fn with_file(list: &[u8], before: Seen, shape: [u64; 16], headers: usize, file: &mut [u8]) -> Seen {
-    let from = test_expected::making::make(list, before.at, shape, headers, file);
-    let case = read(list, from, ASKED);
-    let values = case.values;
-    answers(list, read_to(before, case.at), values, file)
-}
-
-// The next case of the list.
+// The next case of the list, with its file.
 pub fn one_case(list: &[u8], before: Seen) -> Seen {
-    let seen = test_expected::with_case(list, before);
-    let shape = read(list, seen.at, SHAPE);
-    let values = shape.values;
     let mut space = [0u8; 67584];
-    let long = tables::lesser(values[LONG] as usize, 67584);
-    with_file(list, seen, values, shape.at, &mut space[0..long])
+    let case = next_case(list, before, ASKED, &mut space);
+    let asked = case.asked;
+    let long = tables::lesser(case.long, 67584);
+    answers(list, case.seen, asked, &space[0..long])
 }
