@@ -11,6 +11,9 @@ import tempfile
 sys.dont_write_bytecode = True
 from table import BENCH, MIB, PLUGIN, qemu, run
 
+# where the emulator puts a program that is linked to lie anywhere; one that is linked to lie somewhere ends far below
+LOADED = 0x4000000000
+
 
 def blocks(job, size, side, repetitions):
     """Of each translated block, by address and length, how often it was executed."""
@@ -19,7 +22,7 @@ def blocks(job, size, side, repetitions):
         run(*map(str, [qemu(), "-cpu", "qemu64", "-plugin", plugin, BENCH, job, size, "count", side, repetitions]))
         found = collections.Counter()
         for address, instructions, executed in map(str.split, told):
-            found[int(address, 16), int(instructions)] += int(executed)
+            found[int(address, 16) % LOADED, int(instructions)] += int(executed)
     return found
 
 
@@ -37,7 +40,7 @@ def main(job, size=MIB, side="ours"):
     bytes_a_call = job.partition("-")[2]
     calls = -(-int(size) // int(bytes_a_call)) if bytes_a_call.isdigit() else 1
     addresses, names = functions()
-    name_of = lambda address: names[bisect.bisect(addresses, address) - 1]
+    name_of = lambda address: names[bisect.bisect(addresses, address) - 1] if address <= addresses[-1] else "a library"
     by_name = collections.Counter()
     for (address, instructions), executed in spent.items():
         by_name[name_of(address)] += instructions * executed
