@@ -2,6 +2,7 @@
 // what a format is.
 use crate::common::files::Dice;
 use crate::common::model;
+use crate::differences::Name;
 use crate::ours;
 use crate::score::Score;
 
@@ -23,9 +24,19 @@ fn by_name(format: Option<&str>) -> u8 {
     format.and_then(|format| names.iter().position(|&name| name == format)).map_or(0, |at| at as u8 + 1)
 }
 
+/// Of the encrypted recorders, and long enough for the original to name it.
+pub fn encrypted(file: &[u8]) -> bool {
+    file.starts_with(b"\x03enc") && file.len() > 0x604
+}
+
 pub fn compare(file: &[u8], dice: &mut Dice, score: &mut Score) {
     let format = ours::detect_format(file);
-    score.original("detect_format", number(original::detect_format(file)), format);
+    let theirs = number(original::detect_format(file));
+    if encrypted(file) {
+        score.named(Name::EncryptedNames, "detect_format", (true, 0), (theirs > 0, format));
+    } else {
+        score.original("detect_format", theirs, format);
+    }
     score.model("detect_format", by_name(model::format(file)), format);
     let start = original::detect_ds2_audio_start(file);
     score.original("detect_ds2_audio_start", start, ours::detect_ds2_audio_start(file));

@@ -19,6 +19,7 @@ pub enum Name {
     EndInHeader,
     StrictEnd,
     MissingFrames,
+    EncryptedNames,
 }
 
 pub const NAMES: &[(Name, &str)] = &[
@@ -43,4 +44,5 @@ pub const NAMES: &[(Name, &str)] = &[
         "finish answers an error with a text; here refusal 13 with the bytes of the block, or 14 with the frames owed",
     ),
     (Name::MissingFrames, "frames past a segment's end are left out of the list; here each is told by size 0"),
+    (Name::EncryptedNames, "detect_format names a file with \\x03enc by its byte 0x604; here it has no name"),
 ];

@@ -3,6 +3,7 @@
 // of a record is missing, which the original does not tell, is held to the model.
 use crate::common::files::{self, Dice};
 use crate::common::model::{self, Kind};
+use crate::detection;
 use crate::differences::Name;
 use crate::score::Score;
 use klovdrun::demux as port;
@@ -54,7 +55,11 @@ pub fn compare(file: &[u8], dice: &mut Dice, score: &mut Score) {
 fn detection(file: &[u8], dice: &mut Dice, score: &mut Score) {
     let one = original::detect_format(file).map(|format| (format!("{format:?}"), format.native_sample_rate(), format.extension()));
     let other = port::detect_format(file).map(|format| (format!("{format:?}"), format.native_sample_rate(), format.extension()));
-    score.original("crate: detect_format", one, other);
+    if detection::encrypted(file) {
+        score.named(Name::EncryptedNames, "crate: detect_format", (true, None), (one.is_some(), other));
+    } else {
+        score.original("crate: detect_format", one, other);
+    }
     let start = original::detect_ds2_audio_start(file);
     score.original("crate: detect_ds2_audio_start", start, port::ds2::detect_ds2_audio_start(file));
     for place in [0, start, file.len(), dice.below(9000)] {

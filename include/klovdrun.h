@@ -88,7 +88,7 @@ extern "C" {
 #endif
 
 /* The version of all that is said here. It goes up with every change of an answer or of a layout; klov_version tells the archive's. */
-#define KLOV_VERSION 2u
+#define KLOV_VERSION 3u
 /* The longest input, and the longest file that is written, in bytes. */
 #define KLOV_LIMIT 268435456u
 /* Bytes of a packet, of a QP frame (and so of a scratch), of a block, and of a block's payload. */

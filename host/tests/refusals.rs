@@ -4,6 +4,7 @@ mod common;
 
 use common::files::{header, recording, Dice};
 use common::model::{self, refused, Refused};
+use klovdrun::demux::detect_format;
 use klovdrun::demux::ds2::{self, Ds2QpStreamDemuxer, Ds2SpStreamDemuxer};
 use klovdrun::demux::dss::{self, DssSpStreamDemuxer};
 use klovdrun::{frames, places, tally, Reader, Refusal, StreamPlace, FRAME, LIMIT, QP7_WORDS, QP_WORDS};
@@ -99,6 +100,19 @@ fn one_not_a_magic_of_the_call() {
     assert_eq!((&dss[1..6], dss[8]), (&[refused(1, 0); 5][..], refused(1, 0)));
     assert_eq!(whole(&zeros(b"\x03ds2", 2048))[0], refused(1, 0));
     assert_eq!(told(Ds2QpStreamDemuxer::new().finish()), refused(1, 0));
+}
+
+/// Of the encrypted recorders: not named, whatever the length and the byte at 0x604, and read by no call.
+#[test]
+fn one_encrypted() {
+    for kind in [0, 6, 7, 255] {
+        let file = blocks(b"\x03enc", 1536, &[header(0x0F, 3, 2, kind), header(0x0F, 3, 0, kind)]);
+        for length in 4..=file.len() {
+            assert_eq!(detect_format(&file[..length]), None, "{length} bytes, type {kind}");
+            assert_eq!(whole(&file[..length]), [refused(1, 0); 9], "{length} bytes, type {kind}");
+        }
+    }
+    assert_eq!(whole(&zeros(b"\x03enc", LIMIT + 1)), [refused(1, 0); 9]);
 }
 
 #[test]

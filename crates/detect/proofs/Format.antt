@@ -1,4 +1,4 @@
--- The ways of a detected format.
+-- The ways of a detected format, and that a file of the encrypted recorders has none.
 -- Assumes nothing.
 use Prim.Native.Nat.{ℕ, _+_, _≤_, _<_}
 use mathlib.Core.Path.{_≡_, ap, _∙_}
@@ -14,11 +14,18 @@ use Rattle.detect.specs.declared.AudioFormat.the-variants.{None}
 use Rattle.detect.specs.Start.{audioStart}
 use Rattle.detect.specs.Kinds.{formatType, formatOf}
 use Rattle.magic.specs.Magics.{magicOf}
+use Rattle.magic.specs.Withdrawn.{encrypted}
+use Rattle.magic.proofs.Withdrawn.{encrypted-is-none}
 use Rattle.detect.specs.Format.{formatBy, detected}
 
 pub detected-as : {r : AudioFormat} (f : List ℕ) {m n : Magic} → m ≡ magicOf f → m ≡ n → r ≡ formatBy n f → r ≡ detected f
 unfolding detected
 detected-as f p q e = e ∙ ap (λ (m : Magic). formatBy m f) (told q p)
+
+-- A file that begins with 3 and `enc` is not named, whatever follows and however much.
+pub encrypted-unnamed : (rest : List ℕ) → detected (encrypted rest) ≡ None
+unfolding detected formatBy
+encrypted-unnamed rest = rw (encrypted-is-none rest)
 
 -- the ways of a DS2 file
 module _ (f : List ℕ) where

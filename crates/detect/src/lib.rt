@@ -41,16 +41,6 @@ fn format_of(byte: u8) -> AudioFormat
     AudioFormat::Ds2Sp
 }
 
-// An encrypted file is reported by its byte 0x604, whether or not that block announces anything, as in the Rust.
-fn encrypted_format(file: &[u8]) -> AudioFormat
-    ensures { λ r. ⌜ r ≡ formatBy Magic.Encrypted (now (file .entry)) ⌝ }
-{
-    if file.len() <= TYPE_PLACE {
-        return AudioFormat::None;
-    }
-    format_of(file[TYPE_PLACE])
-}
-
 fn ds2_format(file: &[u8]) -> AudioFormat
     ensures { λ r. ⌜ r ≡ formatBy Magic.Ds2 (now (file .entry)) ⌝ }
 {
@@ -73,7 +63,6 @@ pub fn detect_format(file: &[u8]) -> AudioFormat
     match magic {
         Magic::Dss => AudioFormat::DssSp,
         Magic::Ds2 => ds2_format(file),
-        Magic::Encrypted => encrypted_format(file),
         Magic::Grundig => AudioFormat::GrundigSp,
         Magic::Other => AudioFormat::None,
     }

@@ -9,10 +9,13 @@ use denote.Ref.{now}
 use lib.ListN.{length}
 use Rattle.tables.specs.Settled.{SettledAs}
 use Rattle.refusals.specs.declared.Refusal.{Refusal}
-use Rattle.refusals.specs.Numbers.{lacking, OfRecord}
+use Rattle.refusals.specs.Numbers.{numbered, lacking, OfRecord}
 use Rattle.refusals.specs.Said.{answers, refusal, isAmong}
+use Rattle.magic.specs.Withdrawn.{encrypted}
+use Rattle.magic.proofs.Withdrawn.{encrypted-is-none}
 use Rattle.tally.specs.declared.FileKind.the-variants.{Ds2Qp}
 use Rattle.tally.specs.Tallies.{tallied}
+use Rattle.tally.proofs.Theorems.{no-magic-no-tally}
 use Rattle.listing.specs.Decimal.{decimalIn}
 use Rattle.listing.specs.Line.{refusedWord, spacedAll, lineOf, listLine, Lists}
 use Rattle.listing.proofs.Text.{too-long, short-enough}
@@ -56,6 +59,12 @@ module _ (f : List ℕ) (few : length f ≤ 65536) (why : Refusal) (e : tallied 
   unfolding isAmong
   other-line other =
       listed-so ∙ simp (ne-eqb 4 (why .number) (λ is. other (inl (sym is))), ne-eqb 5 (why .number) (λ is. other (inr (sym is))))
+
+-- A file that begins with 3 and `enc` has the line `refused 1 0`.
+pub encrypted-line : (rest : List ℕ) → length (encrypted rest) ≤ 65536 → listLine (encrypted rest) ≡ refusedWord ++ (32 ∷ 49 ∷ 32 ∷ 48 ∷ 10 ∷ [])
+unfolding spacedAll decimalIn isAmong
+encrypted-line rest few =
+    listed-so (encrypted rest) few (numbered 1 0) (no-magic-no-tally (encrypted rest) (encrypted-is-none rest))
 
 -- what a call answers and leaves
 abbrev Seen : Type 0

@@ -1,2 +1,3 @@
 -- Laws of this crate. They rest on the definitions in specs/.
 pub mod Names
+pub mod Withdrawn

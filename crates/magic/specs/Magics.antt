@@ -6,7 +6,7 @@ use mathlib.Core.Bool.{Bool, cond, _&&_, _||_}
 use lib.ListN.{getD, length}
 use lib.Dec.{ltb, eqb}
 use Rattle.magic.specs.declared.Magic.{Magic}
-use Rattle.magic.specs.declared.Magic.the-variants.{Dss, Ds2, Encrypted, Grundig, Other}
+use Rattle.magic.specs.declared.Magic.the-variants.{Dss, Ds2, Grundig, Other}
 
 -- bytes 1 to 3 of the file
 unfoldable pub spells : List ℕ → ℕ → ℕ → ℕ → Bool
@@ -24,15 +24,10 @@ dssBy first = cond (eqb first 2 || eqb first 3) Dss (cond (eqb first 6) Grundig 
 unfoldable pub ds2By : ℕ → Magic
 ds2By first = cond (eqb first 1 || eqb first 3 || eqb first 7) Ds2 Other
 
--- 3 and `enc` is encrypted
-unfoldable pub encBy : ℕ → Magic
-encBy first = cond (eqb first 3) Encrypted Other
-
--- what the first four bytes say; under 4 bytes say nothing. `dss` is 100, 115, 115, `ds2` is 100, 115, 50, `enc` is 101, 110, 99
+-- what the first four bytes say; under 4 bytes say nothing. `dss` is 100, 115, 115, and `ds2` is 100, 115, 50
 unfoldable pub magicOf : List ℕ → Magic
 magicOf f =
     cond (ltb (length f) 4) Other
     (cond (spells f 100 115 115) (dssBy (getD f 0 0))
     (cond (spells f 100 115 50) (ds2By (getD f 0 0))
-    (cond (spells f 101 110 99) (encBy (getD f 0 0))
-    Other)))
+    Other))

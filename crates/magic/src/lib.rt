@@ -3,13 +3,12 @@
 ghost use mathlib.Core.Path.{_≡_};
 ghost use Prim.Native.Nat.{_≤_};
 ghost use lib.ListN.{length, getD};
-ghost use Rattle.magic.specs.Magics.{spells, namesDss, dssBy, ds2By, encBy, magicOf};
+ghost use Rattle.magic.specs.Magics.{spells, namesDss, dssBy, ds2By, magicOf};
 
 // What a file's first four bytes say.
 pub enum Magic {
     Dss,
     Ds2,
-    Encrypted,
     Grundig,
     Other,
 }
@@ -65,15 +64,6 @@ fn ds2_by(first: u8) -> Magic
     Magic::Other
 }
 
-fn enc_by(first: u8) -> Magic
-    ensures { λ r. ⌜ r ≡ encBy first ⌝ }
-{
-    if first == 3 {
-        return Magic::Encrypted;
-    }
-    Magic::Other
-}
-
 // For the crates above. Whether bytes 1 to 3 of the file are `dss`, whatever its first byte is.
 pub fn names_dss(file: &[u8]) -> bool
     ensures { λ r. ⌜ r ≡ namesDss (now (file .entry)) ⌝ }
@@ -96,9 +86,6 @@ pub fn magic_of(file: &[u8]) -> Magic
     }
     if is_spelt(file, b'd', b's', b'2') {
         return ds2_by(file[0]);
-    }
-    if is_spelt(file, b'e', b'n', b'c') {
-        return enc_by(file[0]);
     }
     Magic::Other
 }

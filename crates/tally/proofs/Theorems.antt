@@ -9,12 +9,14 @@ use Rattle.tables.specs.Settled.{SettledResult}
 use Rattle.blocks.specs.Headers.{Bytes}
 use Rattle.refusals.specs.declared.Refusal.{Refusal}
 use Rattle.refusals.specs.Numbers.{OfRecord}
-use Rattle.refusals.specs.Said.{answers, refusal, isAmong, Numbered}
+use Rattle.refusals.specs.Said.{answers, refusal, refuses, isAmong, Numbered}
 use Rattle.refusals.proofs.Said.{not-both, by-onward, went-on, for-the-answer, only-one, readFrom}
 use Rattle.refusals.proofs.Numbered.{not-of-record}
-use Rattle.magic.specs.Magics.{namesDss}
+use Rattle.magic.specs.declared.Magic.the-variants.{Other}
+use Rattle.magic.specs.Magics.{namesDss, magicOf}
 use Rattle.whole.specs.declared.Recording.{Recording}
 use Rattle.whole.specs.Admissions.{admission, announcedBy, streamIn}
+use Rattle.whole.proofs.Admissions.{no-magic}
 use Rattle.whole.proofs.Refusing.{admitting}
 use Rattle.sp.proofs.ReadLists.{ds2-packets, dss-packets}
 use Rattle.qp.specs.Segments.{segmentsFrom}
@@ -41,6 +43,11 @@ use Rattle.tally.proofs.tally.Reads as tally-reads
 -- The tally says of every file what the whole reading of its kind hands out, and refuses exactly as that reading does.
 pub tally-is-the-reading : (f : List ℕ) → talliedOut f ≡ wholeOut (kindFor f) f
 tally-is-the-reading f = agrees f
+
+-- A file without a magic is refused by 1.
+pub no-magic-no-tally : (f : List ℕ) → magicOf f ≡ Other → tallied f ≡ refuses 1 0
+unfolding tallied
+no-magic-no-tally f none = rw (no-magic f (namesDss f) (not (namesDss f)) none)
 
 module _ (f : List ℕ) (figures : Figures) (says : tallied f ≡ answers figures) where
   -- The kind is the file's, and the other numbers are those of the recording that is admitted: where its audio starts, its whole blocks,

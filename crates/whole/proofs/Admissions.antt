@@ -20,7 +20,7 @@ use Rattle.detect.specs.Kinds.{formatType, kindOf, readAs}
 use Rattle.detect.specs.declared.Kind.the-variants.{Sp}
 use Rattle.detect.proofs.Types.{type-none}
 use Rattle.magic.specs.declared.Magic.{Magic}
-use Rattle.magic.specs.declared.Magic.the-variants.{Dss, Ds2, Encrypted, Grundig, Other}
+use Rattle.magic.specs.declared.Magic.the-variants.{Dss, Ds2, Grundig, Other}
 use Rattle.whole.specs.declared.Recording.{Recording}
 use Rattle.magic.specs.Magics.{magicOf}
 use Rattle.detect.specs.Start.{audioStart}
@@ -76,7 +76,6 @@ admitted-by : (m : Magic) (f : List ℕ) (dss ds2 : Bool) (rec : Recording) → 
     → ((dss ≡ true) × (admissionAt f (512 * getD f 0 0) ≡ answers rec)) ⊎ ((ds2 ≡ true) × (admissionAt f (audioStart f) ≡ answers rec))
 admitted-by Dss f dss ds2 rec e = inl (passed dss _ _ _ e)
 admitted-by Ds2 f dss ds2 rec e = inr (passed ds2 _ _ _ e)
-admitted-by Encrypted f dss ds2 rec e = absurd (not-both e)
 admitted-by Grundig f dss ds2 rec e = absurd (not-both e)
 admitted-by Other f dss ds2 rec e = absurd (not-both e)
 
@@ -100,6 +99,11 @@ dss-at f e = rw e
 pub ds2-at : (f : List ℕ) → magicOf f ≡ Ds2 → admission f false true ≡ admissionAt f (audioStart f)
 unfolding admission
 ds2-at f e = rw e
+
+-- a file without a magic is refused by 1, whatever the call takes
+pub no-magic : (f : List ℕ) (dss ds2 : Bool) → magicOf f ≡ Other → admission f dss ds2 ≡ refuses 1 0
+unfolding admission
+no-magic f dss ds2 e = rw e
 
 -- where the audio of a recording starts
 pub dss-recording : (f : List ℕ) (rec : Recording) → admission f true false ≡ answers rec → recordingAt f (512 * getD f 0 0) ≡ rec

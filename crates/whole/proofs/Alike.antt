@@ -12,7 +12,7 @@ use lib.Dec.{ltb}
 use Rattle.blocks.specs.Places.{wholeBlocks}
 use Rattle.blocks.proofs.Alike.{AlikeFrom, header-alike}
 use Rattle.magic.specs.declared.Magic.the-variants.{Other}
-use Rattle.magic.specs.Magics.{spells, dssBy, ds2By, encBy, magicOf}
+use Rattle.magic.specs.Magics.{spells, dssBy, ds2By, magicOf}
 use Rattle.detect.specs.declared.Kind.{Kind}
 use Rattle.detect.specs.Start.{audioStart}
 use Rattle.detect.specs.Kinds.{firstType, formatType}
@@ -36,21 +36,20 @@ module _ (a : ℕ) (f g : List ℕ) (alike : AlikeFrom a f g) where
   kind-alike long kind n = rw long (cc (first-type-alike (wholeBlocks (length g) a) 0))
 
 -- a file that begins with 1 and one that begins with 3 are both admitted as DS2 files, or both refused
-by-tests : (short dss ds2 enc : Bool) (rest : List ℕ)
-    → admissionBy (cond short Other (cond dss (dssBy 1) (cond ds2 (ds2By 1) (cond enc (encBy 1) Other)))) (1 ∷ rest) false true
-    ≡ admissionBy (cond short Other (cond dss (dssBy 3) (cond ds2 (ds2By 3) (cond enc (encBy 3) Other)))) (3 ∷ rest) false true
-unfolding dssBy ds2By encBy audioStart admissionAt
-by-tests true dss ds2 enc rest = refl
-by-tests false true ds2 enc rest = refl
-by-tests false false true enc rest = refl
-by-tests false false false true rest = refl
-by-tests false false false false rest = refl
+by-tests : (short dss ds2 : Bool) (rest : List ℕ)
+    → admissionBy (cond short Other (cond dss (dssBy 1) (cond ds2 (ds2By 1) Other))) (1 ∷ rest) false true
+    ≡ admissionBy (cond short Other (cond dss (dssBy 3) (cond ds2 (ds2By 3) Other))) (3 ∷ rest) false true
+unfolding dssBy ds2By audioStart admissionAt
+by-tests true dss ds2 rest = refl
+by-tests false true ds2 rest = refl
+by-tests false false true rest = refl
+by-tests false false false rest = refl
 
 pub admitted-alike : (rest : List ℕ) → admission (1 ∷ rest) false true ≡ admission (3 ∷ rest) false true
 unfolding admission magicOf spells
 admitted-alike rest =
     let f : List ℕ = 1 ∷ rest in
-    by-tests (ltb (length f) 4) (spells f 100 115 115) (spells f 100 115 50) (spells f 101 110 99) rest
+    by-tests (ltb (length f) 4) (spells f 100 115 115) (spells f 100 115 50) rest
 
 -- a DS2 file whose first byte is not 7 has the same audio start however long it grows
 pub start-stays : (f p : List ℕ) → 1 ≤ length f → (getD f 0 0 ≡ 7 → ⊥) → audioStart f ≡ audioStart (f ++ p)

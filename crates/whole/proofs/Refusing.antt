@@ -10,7 +10,7 @@ use Rattle.blocks.specs.Places.{limit}
 use Rattle.refusals.specs.Said.{isAmong, Numbered}
 use Rattle.refusals.proofs.Numbered.{answered, refused, asked, goes-on, hasAll, wider}
 use Rattle.magic.specs.declared.Magic.{Magic}
-use Rattle.magic.specs.declared.Magic.the-variants.{Dss, Ds2, Encrypted, Grundig, Other}
+use Rattle.magic.specs.declared.Magic.the-variants.{Dss, Ds2, Grundig, Other}
 use Rattle.magic.specs.Magics.{magicOf}
 use Rattle.detect.specs.declared.Kind.{Kind}
 use Rattle.detect.specs.Start.{audioStart}
@@ -34,7 +34,6 @@ module _ (f : List ℕ) (dss ds2 : Bool) where
   unfolding isAmong
   by-magic Dss = asked dss 1 0 refl (at-start (512 * getD f 0 0))
   by-magic Ds2 = asked ds2 1 0 refl (at-start (audioStart f))
-  by-magic Encrypted = refused 1 0 refl
   by-magic Grundig = refused 1 0 refl
   by-magic Other = refused 1 0 refl
 

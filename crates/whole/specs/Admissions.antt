@@ -9,7 +9,7 @@ use lib.Dec.{leb}
 use Rattle.blocks.specs.Places.{limit, wholeBlocks, Whole, streamAt}
 use Rattle.refusals.specs.Said.{Said, answers, refuses, refusal, demand, onward}
 use Rattle.magic.specs.declared.Magic.{Magic}
-use Rattle.magic.specs.declared.Magic.the-variants.{Dss, Ds2, Encrypted, Grundig, Other}
+use Rattle.magic.specs.declared.Magic.the-variants.{Dss, Ds2, Grundig, Other}
 use Rattle.whole.specs.declared.Recording.{Recording}
 use Rattle.whole.specs.declared.Admission.{Admission}
 use Rattle.whole.specs.declared.Admission.the-variants.{Admitted, Refused}
@@ -32,7 +32,6 @@ admissionAt f a =
 abbrev pub admissionBy : Magic → List ℕ → Bool → Bool → Said Recording
 admissionBy Dss f dss ds2 = demand dss 1 0 (admissionAt f (512 * getD f 0 0))
 admissionBy Ds2 f dss ds2 = demand ds2 1 0 (admissionAt f (audioStart f))
-admissionBy Encrypted f dss ds2 = refuses 1 0
 admissionBy Grundig f dss ds2 = refuses 1 0
 admissionBy Other f dss ds2 = refuses 1 0
 

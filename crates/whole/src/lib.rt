@@ -66,7 +66,6 @@ pub fn admit(file: &[u8], dss: bool, ds2: bool) -> Admission
     match magic {
         Magic::Dss => admit_at(file, dss, dss_audio_start(file)),
         Magic::Ds2 => admit_at(file, ds2, detect::ds2::detect_ds2_audio_start(file)),
-        Magic::Encrypted => Admission::Refused(Refusal::magic()),
         Magic::Grundig => Admission::Refused(Refusal::magic()),
         Magic::Other => Admission::Refused(Refusal::magic()),
     }

@@ -76,11 +76,7 @@ uint8_t model_format(struct file f)
         return 5;
     if (begins(f, 2, "dss") || begins(f, 3, "dss"))
         return 1;
-    if (f.len <= 0x604)
-        return 0;
-    if (begins(f, 3, "enc"))
-        return format_of(f.at[0x604]);
-    if (!is_ds2(f) || f.len <= model_start(f) + 4)
+    if (!is_ds2(f) || f.len <= 0x604 || f.len <= model_start(f) + 4)
         return 0;
     return format_of(model_type(f, model_start(f)));
 }

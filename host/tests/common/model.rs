@@ -97,7 +97,6 @@ pub fn format(file: &[u8]) -> Option<&'static str> {
     match file.get(..4)? {
         b"\x06dss" => Some("GrundigSp"),
         b"\x02dss" | b"\x03dss" => Some("DssSp"),
-        b"\x03enc" if file.len() > 0x604 => Some(by_type(file[0x604])),
         b"\x01ds2" | b"\x03ds2" | b"\x07ds2" if file.len() > 0x604 && file.len() > ds2_start(file) + 4 => {
             Some(by_type(ds2_type(file, ds2_start(file))))
         }

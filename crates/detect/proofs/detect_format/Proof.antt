@@ -22,14 +22,8 @@ ds2-format-requires c κs = search needs
 enum-told-3 : tie.Need-enum-told-3
 enum-told-3 c = search needs
 
-encrypted-format-requires : tie.Need-encrypted-format-requires
-encrypted-format-requires c κs = search needs
-
 enum-told-4 : tie.Need-enum-told-4
 enum-told-4 c = search needs
-
-enum-told-5 : tie.Need-enum-told-5
-enum-told-5 c = search needs
 
 returns : tie.Need-returns
 unfolding formatBy
@@ -39,15 +33,12 @@ returns-2 : tie.Need-returns-2
 returns-2 c = detected-as _ (c .before .before .before .magic-of .ensures) (c .before .enum-told2 .given .1) (c .ds2-format .ensures)
 
 returns-3 : tie.Need-returns-3
-returns-3 c = detected-as _ (c .before .before .before .magic-of .ensures) (c .before .enum-told3 .given .1) (c .encrypted-format .ensures)
+unfolding formatBy
+returns-3 c = detected-as _ (c .before .before .magic-of .ensures) (c .enum-told3 .given .1) refl
 
 returns-4 : tie.Need-returns-4
 unfolding formatBy
 returns-4 c = detected-as _ (c .before .before .magic-of .ensures) (c .enum-told4 .given .1) refl
-
-returns-5 : tie.Need-returns-5
-unfolding formatBy
-returns-5 c = detected-as _ (c .before .before .magic-of .ensures) (c .enum-told5 .given .1) refl
 
 pub detect-format-spec : {M : Type 1} → statement M
 detect-format-spec =
@@ -58,11 +49,8 @@ detect-format-spec =
     enum-told-2
     ds2-format-requires
     enum-told-3
-    encrypted-format-requires
     enum-told-4
-    enum-told-5
     returns
     returns-2
     returns-3
-    returns-4
-    returns-5)
+    returns-4)

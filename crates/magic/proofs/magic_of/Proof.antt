@@ -1,4 +1,4 @@
--- `magic::magic_of` meets its contract: by the length and the three names in their order.
+-- `magic::magic_of` meets its contract: by the length and the two names in their order.
 -- Assumes nothing.
 use borrow.Author.Tests.{lt-ltb, le-ltb}
 use Rattle.tables.proofs.Tests.{told}
@@ -44,31 +44,12 @@ returns-3 c =
     let enough = le-ltb _ _ (e .before .before .if1 .left) in
     simp (enough, told (e .before .is-spelt .ensures) (e .if2 .left), told (t .before .is-spelt2 .ensures) (t .if3 .taken), c .ds2-by .ensures)
 
-is-spelt-requires-3 : tie.Need-is-spelt-requires-3
-is-spelt-requires-3 c κs = search needs
-
-shared-slice-read-enc-by : tie.Need-shared-slice-read-enc-by
-shared-slice-read-enc-by c = search needs
-
-enc-by-requires : tie.Need-enc-by-requires
-enc-by-requires c κs = search needs
-
 returns-4 : tie.Need-returns-4
 unfolding magicOf
 returns-4 c =
-    let t = c .before .before in
-    let d = t .before .before in
-    let e = d .before .before in
+    let e = c .before .before in
     let enough = le-ltb _ _ (e .before .before .if1 .left) in
-    simp (enough, told (e .before .is-spelt .ensures) (e .if2 .left), told (d .before .is-spelt2 .ensures) (d .if3 .left), told (t .before .is-spelt3 .ensures) (t .if4 .taken), c .enc-by .ensures)
-
-returns-5 : tie.Need-returns-5
-unfolding magicOf
-returns-5 c =
-    let d = c .before .before in
-    let e = d .before .before in
-    let enough = le-ltb _ _ (e .before .before .if1 .left) in
-    simp (enough, told (e .before .is-spelt .ensures) (e .if2 .left), told (d .before .is-spelt2 .ensures) (d .if3 .left), told (c .before .is-spelt3 .ensures) (c .if4 .left))
+    simp (enough, told (e .before .is-spelt .ensures) (e .if2 .left), told (c .before .is-spelt2 .ensures) (c .if3 .left))
 
 pub magic-of-spec : {M : Type 1} → statement M
 magic-of-spec =
@@ -83,8 +64,4 @@ magic-of-spec =
     shared-slice-read-ds2-by
     ds2-by-requires
     returns-3
-    is-spelt-requires-3
-    shared-slice-read-enc-by
-    enc-by-requires
-    returns-4
-    returns-5)
+    returns-4)

@@ -43,12 +43,6 @@ enum-told-4 c = search needs
 magic-requires-2 : tie.Need-magic-requires-2
 magic-requires-2 c κs = search needs
 
-enum-told-5 : tie.Need-enum-told-5
-enum-told-5 c = search needs
-
-magic-requires-3 : tie.Need-magic-requires-3
-magic-requires-3 c κs = search needs
-
 returns : tie.Need-returns
 returns c =
     let t = c .before .before in
@@ -69,9 +63,6 @@ returns-3 c = admission-as _ _ _ (c .before .before .before .magic-of .ensures) 
 returns-4 : tie.Need-returns-4
 returns-4 c = admission-as _ _ _ (c .before .before .before .magic-of .ensures) (c .before .enum-told4 .given .1) (rw (c .magic2 .ensures))
 
-returns-5 : tie.Need-returns-5
-returns-5 c = admission-as _ _ _ (c .before .before .before .magic-of .ensures) (c .before .enum-told5 .given .1) (rw (c .magic3 .ensures))
-
 pub admit-spec : {M : Type 1} → statement M
 admit-spec =
     tie.close
@@ -87,10 +78,7 @@ admit-spec =
     magic-requires
     enum-told-4
     magic-requires-2
-    enum-told-5
-    magic-requires-3
     returns
     returns-2
     returns-3
-    returns-4
-    returns-5)
+    returns-4)
