@@ -24,18 +24,22 @@ fn by_name(format: Option<&str>) -> u8 {
     format.and_then(|format| names.iter().position(|&name| name == format)).map_or(0, |at| at as u8 + 1)
 }
 
-/// Of the encrypted recorders, and long enough for the original to name it.
-pub fn encrypted(file: &[u8]) -> bool {
-    file.starts_with(b"\x03enc") && file.len() > 0x604
+/// The original's name for a file of the encrypted recorders, if it is long enough to have one.
+pub fn encrypted(file: &[u8]) -> Option<&'static str> {
+    let byte = file.get(0x604).filter(|_| file.starts_with(b"\x03enc"))?;
+    Some(match byte {
+        6 => "Ds2Qp",
+        7 => "Ds2Qp7",
+        _ => "Ds2Sp",
+    })
 }
 
 pub fn compare(file: &[u8], dice: &mut Dice, score: &mut Score) {
     let format = ours::detect_format(file);
     let theirs = number(original::detect_format(file));
-    if encrypted(file) {
-        score.named(Name::EncryptedNames, "detect_format", (true, 0), (theirs > 0, format));
-    } else {
-        score.original("detect_format", theirs, format);
+    match encrypted(file) {
+        Some(name) => score.named(Name::EncryptedNames, "detect_format", (by_name(Some(name)), 0), (theirs, format)),
+        None => score.original("detect_format", theirs, format),
     }
     score.model("detect_format", by_name(model::format(file)), format);
     let start = original::detect_ds2_audio_start(file);

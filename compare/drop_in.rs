@@ -1,9 +1,9 @@
 // The Rust crate in host/ beside the original: every result of the calls that both have, through the crate's own names and signatures. It
-// rests on the crate as a host links it; where the two differ by design nothing is asked here, since the archive's calls are held there. How much
-// of a record is missing, which the original does not tell, is held to the model.
+// rests on the crate as a host links it; where the two differ by design at most that is asked here, since the archive's calls are held there. How
+// much of a record is missing, which the original does not tell, is held to the model.
 use crate::common::files::{self, Dice};
 use crate::common::model::{self, Kind};
-use crate::detection;
+use crate::detection::encrypted;
 use crate::differences::Name;
 use crate::score::Score;
 use klovdrun::demux as port;
@@ -55,10 +55,12 @@ pub fn compare(file: &[u8], dice: &mut Dice, score: &mut Score) {
 fn detection(file: &[u8], dice: &mut Dice, score: &mut Score) {
     let one = original::detect_format(file).map(|format| (format!("{format:?}"), format.native_sample_rate(), format.extension()));
     let other = port::detect_format(file).map(|format| (format!("{format:?}"), format.native_sample_rate(), format.extension()));
-    if detection::encrypted(file) {
-        score.named(Name::EncryptedNames, "crate: detect_format", (true, None), (one.is_some(), other));
-    } else {
-        score.original("crate: detect_format", one, other);
+    match encrypted(file) {
+        Some(name) => {
+            let theirs = one.map(|(name, ..)| name);
+            score.named(Name::EncryptedNames, "crate: detect_format", (Some(name.to_string()), None), (theirs, other));
+        }
+        None => score.original("crate: detect_format", one, other),
     }
     let start = original::detect_ds2_audio_start(file);
     score.original("crate: detect_ds2_audio_start", start, port::ds2::detect_ds2_audio_start(file));

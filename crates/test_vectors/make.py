@@ -419,9 +419,9 @@ def answers(case, file, reader):
 
 # ---- The Rust
 
-DEMUX_DSS, DEMUX_DS2, READ_PIECES, DETECT = 1, 2, 4, 8
+DEMUX_DSS, DEMUX_DS2, READ_PIECES, FORMAT = 1, 2, 4, 8
 # Where the Rust answers: the answers, the call that gives them, when they must be the same.
-RUST = (((2, 3, 72, 73), 0, lambda a: True), ((1,), DETECT, lambda a: True), ((6, 7), DEMUX_DSS, lambda a: a[4] == 0),
+RUST = (((2, 3, 72, 73), 0, lambda a: True), ((1,), FORMAT, lambda a: True), ((6, 7), DEMUX_DSS, lambda a: a[4] == 0),
         ((11, 12), DEMUX_DS2, lambda a: a[9] == 0), ((16, 17, 19), DEMUX_DS2, lambda a: a[14] == 0),
         ((22, 23, 26), DEMUX_DS2, lambda a: a[20] == 0), ((34, 35, 36), READ_PIECES, lambda a: a[32] == 0),
         ((43, 44), READ_PIECES, lambda a: a[32] == a[41] == a[46] == 0),
@@ -432,11 +432,11 @@ ALSO = (((4,), DEMUX_DSS, lambda a: a[4] == 1), ((9, 14, 20), DEMUX_DS2, lambda 
         ((34, 35, 36, 39, 41), READ_PIECES, lambda a: True))
 
 def allowed(file, reader):
-    """The calls that count; where the Rust faults, it may end the process. Encrypted files have a name there, and none here."""
+    """The calls to make; where the Rust faults, it may end the process. Its name for an encrypted file is asked, and not counted."""
     dss = file[:4] not in DSS or len(file) >= BLOCK * file[0]
     ds2 = file[:4] not in DS2 or len(file) > audio_start(file)
-    detect = file[:4] != ENC or len(file) <= 0x604
-    return DEMUX_DSS * dss + DEMUX_DS2 * ds2 + READ_PIECES * reader.agrees() + DETECT * detect
+    same = file[:4] != ENC or len(file) <= 0x604
+    return DEMUX_DSS * dss + DEMUX_DS2 * ds2 + READ_PIECES * reader.agrees() + FORMAT * same
 
 def places(rules, calls, found):
     return {p for them, call, holds in rules if calls & call == call and holds(found) for p in them}

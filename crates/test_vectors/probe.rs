@@ -6,8 +6,9 @@
 //
 // A request is seven u32 (little-endian): the file's length, which calls are allowed, the output's
 // length, the reader's kind, a place in the file and the length of a part there, the number of
-// pieces; then a u32 for each piece (where it ends); then the file. The answer is one line of pairs: the place of an answer in the list, and its value. A call
-// that is not allowed or that faults gives no pair.
+// pieces; then a u32 for each piece (where it ends); then the file. The answer is one line of pairs:
+// the place of an answer in the list, and its value. Detection is always asked; another call that is
+// not allowed, or one that faults, gives no pair.
 #![allow(dead_code)]
 
 use demux::ds2::{DemuxedDs2, Ds2Qp7Segment, Ds2QpSegment, Ds2QpStreamDemuxer, Ds2SpStreamDemuxer};

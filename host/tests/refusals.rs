@@ -91,7 +91,7 @@ fn fed(kind: u64, bytes: &[u8]) -> Reader {
 
 #[test]
 fn one_not_a_magic_of_the_call() {
-    for file in [&b""[..], b"\x01ds", b"\x02ds", b"\x06dss", b"\x02ds2", b"\x03enc", &zeros(b"RIFF", 5000)] {
+    for file in [&b""[..], b"\x01ds", b"\x02ds", b"\x06dss", b"\x02ds2", &zeros(b"RIFF", 5000)] {
         assert_eq!(whole(file), [refused(1, 0); 9]);
         assert_eq!(told(dss::demux_dss(file)), refused(1, 0));
         assert_eq!(told(ds2::demux_ds2(file)), refused(1, 0));
@@ -102,7 +102,7 @@ fn one_not_a_magic_of_the_call() {
     assert_eq!(told(Ds2QpStreamDemuxer::new().finish()), refused(1, 0));
 }
 
-/// Of the encrypted recorders: not named, whatever the length and the byte at 0x604, and read by no call.
+/// Of the encrypted recorders: not named, whatever the length and the byte at 0x604, and taken by no call that reads a file whole.
 #[test]
 fn one_encrypted() {
     for kind in [0, 6, 7, 255] {
@@ -112,7 +112,8 @@ fn one_encrypted() {
             assert_eq!(whole(&file[..length]), [refused(1, 0); 9], "{length} bytes, type {kind}");
         }
     }
-    assert_eq!(whole(&zeros(b"\x03enc", LIMIT + 1)), [refused(1, 0); 9]);
+    let long = zeros(b"\x03enc", LIMIT + 1);
+    assert_eq!((detect_format(&long), whole(&long)), (None, [refused(1, 0); 9]));
 }
 
 #[test]

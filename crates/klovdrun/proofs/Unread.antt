@@ -1,5 +1,5 @@
--- What has no magic is read by nothing: each call refuses it by 1, and each export tells so. Of that sort are the files of the encrypted
--- recorders, which are withdrawn. Assumes nothing.
+-- What has no magic is not read: each call that reads a file whole refuses it by 1, and its export tells so. Of that sort are the files of the
+-- encrypted recorders, which are withdrawn. Assumes nothing.
 use Prim.Native.Nat.{ℕ}
 use mathlib.Core.Path.{_≡_, ap, _∙_}
 use mathlib.Core.List.{List}
@@ -16,7 +16,7 @@ use Rattle.detect.specs.Format.{detected}
 use Rattle.detect.proofs.Format.{encrypted-unnamed}
 use Rattle.whole.specs.declared.Recording.{Recording}
 use Rattle.whole.specs.Admissions.{ds2Admission}
-use Rattle.whole.specs.Payload.{payloadPlace}
+use Rattle.whole.specs.Payload.{payloadPlace, payloadShown, shownAt}
 use Rattle.whole.proofs.Admissions.{no-magic}
 use Rattle.sp.specs.Readings.{Reading, dssReading, ds2Reading}
 use Rattle.sp.specs.Outcome.{roomIn, inRoom, answered as packets}
@@ -25,9 +25,11 @@ use Rattle.qp.specs.Segments.{Reading as QpReading, qpReading}
 use Rattle.qp.specs.Outcome.{inRoom as qpRoom, inTable, answered as segments}
 use Rattle.qp7.specs.Walk.{Gathered, qp7Reading}
 use Rattle.qp7.specs.Outcome.{inRoom as qp7Room, inTables, answered as records}
-use Rattle.frames.specs.Fetch.{fetchFrom, standing}
+use Rattle.frames.specs.Fetch.{fetchFrom, standing, shown, shownBy}
+use Rattle.tally.specs.Tallies.{tallied}
 use Rattle.tally.proofs.Theorems.{no-magic-no-tally}
 use Rattle.numbers.specs.declared.Answer.{Answer}
+use Rattle.numbers.specs.declared.Tallied.{Tallied}
 use Rattle.numbers.specs.Numbers.{formatNumber, refusing, oneNumber, qpNumbers, qp7Numbers, standNumbers, tallyNumbers}
 use Rattle.klovdrun.specs.Wrapped.{SpCarries, ofTally}
 use Rattle.klovdrun.specs.Unread.{Unread, Asked, demux-dss, demux-ds2-sp, ds2-sp-packet, demux-ds2-qp, demux-ds2-qp7, tally, payload, fetch, show}
@@ -38,9 +40,17 @@ module _ (f : List ℕ) (none : magicOf f ≡ Other) where
   unfolding ds2Admission
   as-ds2 kind = rw (no-magic f false true none)
 
-  -- A file without a magic is read by no call.
+  place-refused : (block : ℕ) → payloadPlace f block ≡ refuses 1 0
+  unfolding payloadPlace
+  place-refused block = rw (no-magic f true true none)
+
+  fetch-refused : (place size room : ℕ) → fetchFrom f place size room ≡ refuses 1 0
+  unfolding fetchFrom
+  fetch-refused place size room = rw (no-magic f false true none)
+
+  -- A file without a magic is read by no call that reads a file whole.
   pub no-magic-unread : Unread f
-  unfolding dssReading ds2Reading packetReading qpReading qp7Reading payloadPlace fetchFrom
+  unfolding dssReading ds2Reading packetReading qpReading qp7Reading payloadShown shown
   no-magic-unread =
       record {
         dss = rw (no-magic f true false none);
@@ -49,8 +59,10 @@ module _ (f : List ℕ) (none : magicOf f ≡ Other) where
         qp = rw (as-ds2 _);
         qp7 = rw (as-ds2 _);
         tally = no-magic-no-tally f none;
-        payload = λ block. rw (no-magic f true true none);
-        fetch = λ place size room. rw (no-magic f false true none);
+        payload = place-refused;
+        payload-shown = λ block. ap (shownAt f) (place-refused block);
+        fetch = fetch-refused;
+        frame-shown = λ place size scratch. ap (λ (said : Said Recording). shownBy f said place size scratch) (fetch-refused place size (length scratch));
       }
 
 -- the numbers of an SP reading that is refused so
@@ -67,7 +79,11 @@ module _ (f : List ℕ) (unread : Unread f) where
   show-told place size room e =
       e ∙ ap (λ (said : Said Recording). standNumbers (standing said place size)) (unread .fetch place size room)
 
-  -- Of a file that no call reads each export tells refusal 1, and every other number is 0.
+  -- The tally refuses it by 1, and its other ten numbers are 0.
+  pub told-untallied : {r : Tallied} → r ≡ tallyNumbers (tallied f) → r ≡ tallyNumbers (refuses 1 0)
+  told-untallied e = e ∙ ap tallyNumbers (unread .tally)
+
+  -- Each export that reads a file whole tells refusal 1 of it, and every other number is 0.
   pub told-unread : {r : Answer} → Asked f r → r ≡ refusing (numbered 1 0) 0
   unfolding qpRoom qp7Room
   told-unread (demux-dss c) = sp-told c (unread .dss)
@@ -77,18 +93,18 @@ module _ (f : List ℕ) (unread : Unread f) where
       c .numbers-are ∙ ap qpNumbers (c .comes .answer-is ∙ ap (λ (said : Said QpReading). segments (inTable said table)) (unread .qp))
   told-unread (demux-ds2-qp7 {records = places} {segments = entries} c) =
       c .numbers-are ∙ ap qp7Numbers (c .comes .answer-is ∙ ap (λ (said : Said Gathered). records (inTables said places entries)) (unread .qp7))
-  told-unread (tally e) = ap ofTally (e ∙ ap tallyNumbers (unread .tally))
+  told-unread (tally e) = ap ofTally (told-untallied e)
   told-unread (payload block e) = e ∙ ap oneNumber (unread .payload block)
   told-unread (fetch place size {scratch = scratch} c) = show-told place size (length scratch) (fetch-shows c)
   told-unread (show place size scratch e) = show-told place size (length scratch) e
 
 -- Of every file that begins with 3 and `enc`, whatever follows and however much.
 module _ (rest : List ℕ) where
-  -- No call reads it.
+  -- No call reads it that reads a file whole.
   pub encrypted-refused : Unread (encrypted rest)
   encrypted-refused = no-magic-unread (encrypted rest) (encrypted-is-none rest)
 
-  -- A host that asks any export for it is told refusal 1, and every other number is 0.
+  -- A host that has given it to an export that reads a file whole is told refusal 1, and every other number is 0.
   pub told-refused : {r : Answer} → Asked (encrypted rest) r → r ≡ refusing (numbered 1 0) 0
   told-refused asked = told-unread (encrypted rest) encrypted-refused asked
 

@@ -1,23 +1,23 @@
--- A file that nothing reads: each call that takes a whole file refuses it by 1, and so a host is told by each export.
+-- A file that is not read: each call that reads a file whole refuses it by 1, and a host is told so by each export that does.
 -- Assumes nothing.
 use Prim.Native.Nat.{ℕ}
 use mathlib.Core.Path.{_≡_}
-use mathlib.Core.List.{List}
+use mathlib.Core.List.{List, []}
 use lib.ListN.{length}
 use Rattle.refusals.specs.Said.{refuses}
-use Rattle.whole.specs.Payload.{payloadPlace}
+use Rattle.whole.specs.Payload.{payloadPlace, payloadShown}
 use Rattle.sp.specs.Readings.{dssReading, ds2Reading}
 use Rattle.at_once.specs.Straight.{packetReading}
 use Rattle.qp.specs.Segments.{qpReading}
 use Rattle.qp7.specs.Walk.{qp7Reading}
-use Rattle.frames.specs.Fetch.{fetchFrom, standing}
+use Rattle.frames.specs.Fetch.{fetchFrom, standing, shown}
 use Rattle.tally.specs.Tallies.{tallied}
 use Rattle.numbers.specs.declared.Answer.{Answer}
 use Rattle.numbers.specs.declared.Tallied.{Tallied}
 use Rattle.numbers.specs.Numbers.{oneNumber, standNumbers, tallyNumbers}
 use Rattle.klovdrun.specs.Wrapped.{SpCarries, QpCarries, Qp7Carries, FillCarries, ofTally}
 
--- what the calls say of it, whatever they are asked beside the file; the readings do not depend on what is lent
+-- what the calls say of it, whatever they are asked beside the file; the readings do not depend on what is lent. What is shown is empty
 pub record Unread (f : List ℕ) : Type 0 where
   pub dss : dssReading f ≡ refuses 1 0
   pub ds2 : ds2Reading f ≡ refuses 1 0
@@ -26,9 +26,11 @@ pub record Unread (f : List ℕ) : Type 0 where
   pub qp7 : qp7Reading f ≡ refuses 1 0
   pub tally : tallied f ≡ refuses 1 0
   pub payload : (block : ℕ) → payloadPlace f block ≡ refuses 1 0
+  pub payload-shown : (block : ℕ) → payloadShown f block ≡ []
   pub fetch : (place size room : ℕ) → fetchFrom f place size room ≡ refuses 1 0
+  pub frame-shown : (place size : ℕ) (scratch : List ℕ) → shown f place size scratch ≡ []
 
--- r is what some export answered that was given this file whole, with whatever was lent to it; of a tally the numbers that an answer has
+-- r is what some export answered that reads a file whole, this one, with whatever was lent to it; of a tally the six numbers that an answer has
 pub data Asked (f : List ℕ) : Answer → Type 0 where
   demux-dss : {out out′ counts counts′ : List ℕ} {r : Answer} → SpCarries (dssReading f) out out′ counts counts′ r → Asked f r
   demux-ds2-sp : {out out′ counts counts′ : List ℕ} {r : Answer} → SpCarries (ds2Reading f) out out′ counts counts′ r → Asked f r

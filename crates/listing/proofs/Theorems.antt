@@ -60,7 +60,7 @@ module _ (f : List ℕ) (few : length f ≤ 65536) (why : Refusal) (e : tallied 
   other-line other =
       listed-so ∙ simp (ne-eqb 4 (why .number) (λ is. other (inl (sym is))), ne-eqb 5 (why .number) (λ is. other (inr (sym is))))
 
--- A file that begins with 3 and `enc` has the line `refused 1 0`.
+-- A file of at most 65,536 bytes that begins with 3 and `enc` has the line `refused 1 0`.
 pub encrypted-line : (rest : List ℕ) → length (encrypted rest) ≤ 65536 → listLine (encrypted rest) ≡ refusedWord ++ (32 ∷ 49 ∷ 32 ∷ 48 ∷ 10 ∷ [])
 unfolding spacedAll decimalIn isAmong
 encrypted-line rest few =

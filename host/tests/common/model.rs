@@ -89,16 +89,15 @@ pub fn ds2_type(file: &[u8], start: usize) -> u8 {
 
 /// What `detect_format` answers, by name.
 pub fn format(file: &[u8]) -> Option<&'static str> {
-    let by_type = |kind| match kind {
-        6 => "Ds2Qp",
-        7 => "Ds2Qp7",
-        _ => "Ds2Sp",
-    };
     match file.get(..4)? {
         b"\x06dss" => Some("GrundigSp"),
         b"\x02dss" | b"\x03dss" => Some("DssSp"),
         b"\x01ds2" | b"\x03ds2" | b"\x07ds2" if file.len() > 0x604 && file.len() > ds2_start(file) + 4 => {
-            Some(by_type(ds2_type(file, ds2_start(file))))
+            Some(match ds2_type(file, ds2_start(file)) {
+                6 => "Ds2Qp",
+                7 => "Ds2Qp7",
+                _ => "Ds2Sp",
+            })
         }
         _ => None,
     }
