@@ -1,6 +1,6 @@
-// Short inputs, all of them: every input of up to 2 bytes, every one of 3 and 4 bytes over those that magics and `\x03enc` are made of, each of
-// these with every length up to a block past its header, and every first byte with every type. It rests on the comparisons of a file and its
-// pieces.
+// Short inputs, all of them: every input of up to 2 bytes, every one of 3 and 4 bytes over those that magics and `\x03enc` are made of, each
+// magic and `\x03enc` with every length up to a block past its header, and every first byte with every type. It rests on the comparisons of a
+// file and its pieces.
 use crate::both::Both;
 use crate::common::files::{self, Dice};
 use crate::score::Score;

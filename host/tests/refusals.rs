@@ -91,7 +91,7 @@ fn fed(kind: u64, bytes: &[u8]) -> Reader {
 
 #[test]
 fn one_not_a_magic_of_the_call() {
-    for file in [&b""[..], b"\x01ds", b"\x02ds", b"\x06dss", b"\x02ds2", &zeros(b"RIFF", 5000)] {
+    for file in [&b""[..], b"\x01ds", b"\x02ds", b"\x06dss", b"\x02ds2", b"\x03enc", &zeros(b"RIFF", 5000)] {
         assert_eq!(whole(file), [refused(1, 0); 9]);
         assert_eq!(told(dss::demux_dss(file)), refused(1, 0));
         assert_eq!(told(ds2::demux_ds2(file)), refused(1, 0));
