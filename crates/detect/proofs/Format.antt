@@ -1,4 +1,4 @@
--- The ways of a detected format, and that a file of the encrypted recorders has none.
+-- The ways of a detected format; which files are named by four bytes alone, and that a file of the encrypted recorders has no name.
 -- Assumes nothing.
 use Prim.Native.Nat.{ℕ, _+_, _≤_, _<_}
 use mathlib.Core.Path.{_≡_, ap, _∙_}
@@ -10,17 +10,25 @@ use Rattle.tables.proofs.Tests.{told}
 use Rattle.magic.specs.declared.Magic.{Magic}
 use Rattle.magic.specs.declared.Magic.the-variants.{Ds2}
 use Rattle.detect.specs.declared.AudioFormat.{AudioFormat}
-use Rattle.detect.specs.declared.AudioFormat.the-variants.{None}
+use Rattle.detect.specs.declared.AudioFormat.the-variants.{None, DssSp, GrundigSp}
 use Rattle.detect.specs.Start.{audioStart}
 use Rattle.detect.specs.Kinds.{formatType, formatOf}
 use Rattle.magic.specs.Magics.{magicOf}
+use Rattle.magic.specs.Beginnings.{dssFile}
 use Rattle.magic.specs.Withdrawn.{encrypted}
+use Rattle.magic.proofs.Beginnings.{dss-magics}
 use Rattle.magic.proofs.Withdrawn.{encrypted-is-none}
 use Rattle.detect.specs.Format.{formatBy, detected}
 
 pub detected-as : {r : AudioFormat} (f : List ℕ) {m n : Magic} → m ≡ magicOf f → m ≡ n → r ≡ formatBy n f → r ≡ detected f
 unfolding detected
 detected-as f p q e = e ∙ ap (λ (m : Magic). formatBy m f) (told q p)
+
+-- DSS and Grundig files are named by their four bytes alone, whatever follows.
+pub named-by-four : (rest : List ℕ)
+    → (detected (dssFile 2 rest) ≡ DssSp) × (detected (dssFile 3 rest) ≡ DssSp) × (detected (dssFile 6 rest) ≡ GrundigSp)
+unfolding detected formatBy
+named-by-four rest = let m = dss-magics rest in (rw (m .0), rw (m .1), rw (m .2))
 
 -- A file that begins with 3 and `enc` is not named, whatever follows and however much.
 pub encrypted-unnamed : (rest : List ℕ) → detected (encrypted rest) ≡ None
