@@ -139,13 +139,13 @@ module _ (kind : ℕ) (f : List ℕ) (small : length f ≤ limit) (agrees : Agre
         all-handed = v .so .as-announced;
         none-short =
             ap (λ (out : HandedOut). out .short) (v .so .hands)
-            ∙ none-such (total r) (λ k. not (wholeAt r k)) (λ k h. rw (whole-exactly r k .3 (complete k h)));
+            ∙ none-such (total r) (λ k. not (wholeAt r k)) (λ k h. rw (whole-exactly r k .1 (complete k h)));
         none-past = omega (arith, none-past, v .so .start-is, v .so .blocks-are);
       })
 
   complete-tallied : {n : ℕ} {packets entries : List ℕ} → CompleteRecording kind f n packets entries → AsAnnounced told (length f)
   complete-tallied c =
-      tallied-as (λ k h. c .none-short k (omega (arith, c .all-read agrees .1))) (omega (arith, c .none-cut, agrees .full))
+      tallied-as (λ k h. c .all-complete k (omega (arith, c .all-read agrees .1))) (omega (arith, c .none-cut, agrees .full))
 
   tallied-complete : AsAnnounced told (length f)
       → (length f ≡ startOf kind + 512 * blocksIn kind f)
@@ -157,7 +157,7 @@ module _ (kind : ℕ) (f : List ℕ) (small : length f ≤ limit) (agrees : Agre
       let none : howMany (total r) (λ k. not (wholeAt r k)) ≡ 0 = sym (ap (λ (out : HandedOut). out .short) (v .so .hands)) ∙ numbers .none-short in (
         omega (arith, numbers .none-past, v .so .start-is, v .so .blocks-are),
         (λ k h.
-            whole-exactly r k .2
+            whole-exactly r k .0
             (not-false (wholeAt r k)
             (none-counted (total r) (λ k. not (wholeAt r k)) none k
             (omega (arith, packets-announced (isDss kind) f (startOf kind) (blocksIn kind f)))))),

@@ -13,7 +13,7 @@ use Rattle.refusals.specs.Said.{answers, refusal, isAmong}
 use Rattle.refusals.proofs.Said.{not-both, by-numbers, for-the-answer}
 use Rattle.packets.specs.Packet.{readSize}
 use Rattle.sp.specs.Readings.{Reading, total, CompleteAt}
-use Rattle.sp.proofs.Theorems.{whole-exactly}
+use Rattle.sp.proofs.Theorems.{complete-exactly}
 use Rattle.writing.specs.Laying.{manyIn, byteIn}
 use Rattle.writing.specs.Outcome.{writtenSays}
 use Rattle.writing.specs.Writable.{fileSize, Writable, Unwritable}
@@ -115,4 +115,4 @@ module _ {header packets out out′ : List ℕ} {r : Answer} (c : WriteCarries h
           (sym (back .is-read) ∙ agrees-is 0 (take (r .first) out′) small written-agrees)
           (λ k h.
           let reading = told-reads-back .0 in
-          whole-exactly reading k .2 (whole-exactly reading k .1 (back .full k h ∙ ap readSize (sym (back .swapped k h)))))
+          complete-exactly reading k .1 (back .full k h ∙ ap readSize (sym (back .swapped k h))))

@@ -10,8 +10,8 @@ use Rattle.tables.proofs.Cases.{by-equal}
 use Rattle.tables.specs.Table.{table}
 use Rattle.tables.proofs.Table.{same-table}
 use Rattle.packets.specs.declared.Packet.{Packet}
-use Rattle.packets.specs.Packet.{readSize, swappedByte, packetByte, carryAfter, from, fileCount, isWhole, IsPacket}
-use Rattle.packets.proofs.Packets.{whole-says}
+use Rattle.packets.specs.Packet.{readSize, swappedByte, packetByte, carryAfter, from, fileCount, isFull, IsPacket}
+use Rattle.packets.proofs.Packets.{full-says}
 use Rattle.packets.specs.Walk.{Walk, steps, byteOf, countAt, Complete}
 
 -- two streams agree below n
@@ -58,10 +58,10 @@ same-at s t n m w agree more complete = (
 )
 
 -- the packet that a read gives is the one that it gives of a longer stream
-pub longer : (s t : ℕ → ℕ) (n m : ℕ) (swap : Bool) (carry q : ℕ) (p : Packet) → Agree s t n → n ≤ m → isWhole n swap q ≡ true
+pub longer : (s t : ℕ → ℕ) (n m : ℕ) (swap : Bool) (carry q : ℕ) (p : Packet) → Agree s t n → n ≤ m → isFull n swap q ≡ true
     → IsPacket s n swap carry q p → IsPacket t m swap carry q p
-longer s t n m swap carry q p agree more whole x =
-    let complete = whole-says n swap q whole in
+longer s t n m swap carry q p agree more all x =
+    let complete = full-says n swap q all in
     let same = same-at s t n m (record { place = q; carry = carry; swap = swap }) agree more complete in
     record {
       bytes-are = x .bytes-are ∙ same .0;

@@ -1,4 +1,4 @@
--- Whole and short; and that two packets of one read are the same.
+-- Full counts; and that two packets of one read are the same.
 -- Assumes nothing.
 use Prim.Native.Nat.{ℕ, _+_, _-_, _≤_, _<_, min}
 use mathlib.Core.Path.{_≡_}
@@ -8,37 +8,37 @@ use native.Mathlib.Omega.{arith}
 use borrow.Author.Tests.{eq-eqb, eqb-true, eqb-false}
 use Rattle.tables.proofs.Cases.{by-order}
 use Rattle.packets.specs.declared.Packet.{Packet}
-use Rattle.packets.specs.Packet.{readSize, fileCount, isWhole, IsPacket}
+use Rattle.packets.specs.Packet.{readSize, fileCount, isFull, IsPacket}
 
 pub read-most : (swap : Bool) → readSize swap ≤ 42
 read-most true = omega arith
 read-most false = omega arith
 
--- a packet is whole exactly when its read is complete
-pub whole-says : (n : ℕ) (swap : Bool) (q : ℕ) → isWhole n swap q ≡ true → q + readSize swap ≤ n
-unfolding isWhole fileCount
-whole-says n swap q e = complete swap (eqb-true (fileCount n swap q) (readSize swap) e)
+-- a count is full exactly when the read is complete
+pub full-says : (n : ℕ) (swap : Bool) (q : ℕ) → isFull n swap q ≡ true → q + readSize swap ≤ n
+unfolding isFull fileCount
+full-says n swap q e = complete swap (eqb-true (fileCount n swap q) (readSize swap) e)
   where
     complete : (swap : Bool) → fileCount n swap q ≡ readSize swap → q + readSize swap ≤ n
     complete true e = omega arith
     complete false e = omega arith
 
-pub whole-if : (n : ℕ) (swap : Bool) (q : ℕ) → q + readSize swap ≤ n → isWhole n swap q ≡ true
-unfolding isWhole fileCount
-whole-if n swap q h =
+pub full-if : (n : ℕ) (swap : Bool) (q : ℕ) → q + readSize swap ≤ n → isFull n swap q ≡ true
+unfolding isFull fileCount
+full-if n swap q h =
     let all : min (readSize swap) (n - q) ≡ readSize swap = omega arith in
     eq-eqb (min (readSize swap) (n - q)) (readSize swap) all
 
-pub short-says : (n : ℕ) (swap : Bool) (q : ℕ) → isWhole n swap q ≡ false → n < q + readSize swap
-unfolding isWhole fileCount
-short-says n swap q e =
+pub not-full-says : (n : ℕ) (swap : Bool) (q : ℕ) → isFull n swap q ≡ false → n < q + readSize swap
+unfolding isFull fileCount
+not-full-says n swap q e =
     let less : min (readSize swap) (n - q) ≡ readSize swap → ⊥ = eqb-false (min (readSize swap) (n - q)) (readSize swap) e in
     by-order n (q + readSize swap) (λ h. h) (λ h. absurd (less (omega arith)))
 
--- a whole packet's count is its read size
-pub count-whole : (n : ℕ) (swap : Bool) (q : ℕ) → q + readSize swap ≤ n → fileCount n swap q ≡ readSize swap
+-- and it is the read size then
+pub count-full : (n : ℕ) (swap : Bool) (q : ℕ) → q + readSize swap ≤ n → fileCount n swap q ≡ readSize swap
 unfolding fileCount
-count-whole n swap q h = omega arith
+count-full n swap q h = omega arith
 
 -- two packets that a read may give are the same
 packet : List ℕ → ℕ → ℕ → ℕ → Packet

@@ -31,9 +31,9 @@ from s q j = s (q + j)
 unfoldable pub fileCount : ℕ → Bool → ℕ → ℕ
 fileCount n swap q = min (readSize swap) (n - q)
 
--- a packet is whole when that is its read size, and otherwise short
-unfoldable pub isWhole : ℕ → Bool → ℕ → Bool
-isWhole n swap q = eqb (fileCount n swap q) (readSize swap)
+-- that count is full when it is the read size
+unfoldable pub isFull : ℕ → Bool → ℕ → Bool
+isFull n swap q = eqb (fileCount n swap q) (readSize swap)
 
 -- p is what a read at q of the stream s of n bytes gives
 pub record IsPacket (s : ℕ → ℕ) (n : ℕ) (swap : Bool) (carry q : ℕ) (p : Packet) : Type 0 where

@@ -52,7 +52,7 @@ module _ (kind : ℕ) (opening : Step) (opens : Opens kind opening) (known : isK
         none-cut = omega (arith, whole);
         packets-are = v .part .packets-are;
         counts-are = v .part .entries-are;
-        none-short = λ k h. ready-complete f (startOf kind) (blocksIn kind f) (isDss kind) k (omega (arith, v .many));
+        all-complete = λ k h. ready-complete f (startOf kind) (blocksIn kind f) (isDss kind) k (omega (arith, v .many));
         all-read = λ agrees. (
           agrees-is kind f (v .sound .small) agrees,
           all ∙ sym (total-is (isDss kind) f (startOf kind) (blocksIn kind f)),

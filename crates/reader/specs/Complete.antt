@@ -22,5 +22,5 @@ pub record CompleteRecording (kind : ℕ) (f : List ℕ) (n : ℕ) (packets entr
   pub none-cut : length f ≤ startOf kind + 512 * blocksIn kind f
   pub packets-are : packets ≡ packetsFrom (readingBy kind f) 0 n
   pub counts-are : entries ≡ countsFrom (readingBy kind f) 0 n
-  pub none-short : (k : ℕ) → k < n → CompleteAt (readingBy kind f) k
+  pub all-complete : (k : ℕ) → k < n → CompleteAt (readingBy kind f) k
   pub all-read : Agrees kind f → (wholeReading kind f ≡ answers (readingBy kind f)) × (n ≡ total (readingBy kind f))

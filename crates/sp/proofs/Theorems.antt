@@ -5,7 +5,7 @@ use mathlib.Core.Path.{_≡_, refl, sym, ap, _∙_, subst, subst₂}
 use mathlib.Core.List.{List, [], _++_}
 use mathlib.Core.Bool.{true, false}
 use native.Mathlib.Omega.{arith}
-use borrow.Author.Tests.{le-leb, lt-leb, eqb-true, eq-eqb}
+use borrow.Author.Tests.{le-leb, lt-leb, eq-eqb}
 use denote.Ref.{now}
 use lib.ListN.{length, getD, List·getD-append}
 use Rattle.tables.specs.Settled.{SettledAs}
@@ -26,10 +26,10 @@ use Rattle.detect.specs.declared.Kind.the-variants.{Sp}
 use Rattle.detect.specs.Start.{audioStart}
 use Rattle.whole.specs.Admissions.{admission, ds2Admission, announcedBy}
 use Rattle.whole.proofs.Admissions.{dss-at, ds2-at, bare-header, cut-header, empty-is-sp, ds2-refused, dss-recording, ds2-recording, ds2-admitted, sound, four-bytes}
-use Rattle.packets.specs.Packet.{readSize, carryAfter, from, isWhole}
+use Rattle.packets.specs.Packet.{readSize, carryAfter, from, isFull}
 use Rattle.packets.specs.Start.{dssStart}
 use Rattle.packets.specs.Walk.{Walk, byteOf, reach, parity}
-use Rattle.packets.proofs.Packets.{whole-says, whole-if}
+use Rattle.packets.proofs.Packets.{full-says, full-if, count-full}
 use Rattle.packets.proofs.Walk.{steps-place, steps-swap}
 use Rattle.sp.specs.declared.Run.{Run}
 use Rattle.sp.specs.declared.Demuxed.{Demuxed}
@@ -96,16 +96,21 @@ packets-stand r out out′ counts counts′ w k h = (
   leaves-at (w .counts-are) k h,
 )
 
--- A packet is whole exactly when its count is its read size, and that is exactly when its read is complete in the payload stream.
-pub whole-exactly : (r : Reading) (k : ℕ)
-    → (wholeAt r k ≡ true → fileCountAt r k ≡ readSize (walkAt r k .swap)) × (fileCountAt r k ≡ readSize (walkAt r k .swap) → wholeAt r k ≡ true)
-    × (wholeAt r k ≡ true → CompleteAt r k) × (CompleteAt r k → wholeAt r k ≡ true)
-unfolding isWhole
+-- A packet's count is its read size exactly when its read is complete in the payload stream.
+pub complete-exactly : (r : Reading) (k : ℕ)
+    → (CompleteAt r k → fileCountAt r k ≡ readSize (walkAt r k .swap)) × (fileCountAt r k ≡ readSize (walkAt r k .swap) → CompleteAt r k)
+unfolding isFull
+complete-exactly r k = (
+  (λ complete. count-full (r .long) (walkAt r k .swap) (walkAt r k .place) complete),
+  (λ full.
+      full-says (r .long) (walkAt r k .swap) (walkAt r k .place) (eq-eqb (fileCountAt r k) (readSize (walkAt r k .swap)) full)),
+)
+
+-- A packet is whole exactly when that is so.
+pub whole-exactly : (r : Reading) (k : ℕ) → (wholeAt r k ≡ true → CompleteAt r k) × (CompleteAt r k → wholeAt r k ≡ true)
 whole-exactly r k = (
-  (λ whole. eqb-true (fileCountAt r k) (readSize (walkAt r k .swap)) whole),
-  (λ full. eq-eqb (fileCountAt r k) (readSize (walkAt r k .swap)) full),
-  (λ whole. whole-says (r .long) (walkAt r k .swap) (walkAt r k .place) whole),
-  (λ complete. whole-if (r .long) (walkAt r k .swap) (walkAt r k .place) complete),
+  (λ whole. full-says (r .long) (walkAt r k .swap) (walkAt r k .place) whole),
+  (λ complete. full-if (r .long) (walkAt r k .swap) (walkAt r k .place) complete),
 )
 
 -- What is taken is handed out exactly if there is room for all of it, and is otherwise refused by 8 with the packets needed.

@@ -10,7 +10,7 @@ use Rattle.refusals.specs.Said.{Said, answers, onward}
 use Rattle.whole.specs.declared.Recording.{Recording}
 use Rattle.detect.specs.declared.Kind.the-variants.{Sp}
 use Rattle.whole.specs.Admissions.{admission, ds2Admission}
-use Rattle.packets.specs.Packet.{isWhole}
+use Rattle.packets.specs.Packet.{isFull}
 use Rattle.packets.specs.Walk.{Walk, byteOf, countAt, Complete}
 use Rattle.sp.specs.declared.Run.{Run}
 use Rattle.sp.specs.Runs.{packetsIn, standsAt}
@@ -44,7 +44,7 @@ fileCountAt reading k = countAt (reading .long) (walkAt reading k)
 
 -- packet k is whole; and all the bytes of its read came from the file, which is the same (`whole-exactly`)
 abbrev pub wholeAt : Reading → ℕ → Bool
-wholeAt reading k = isWhole (reading .long) (walkAt reading k .swap) (walkAt reading k .place)
+wholeAt reading k = isFull (reading .long) (walkAt reading k .swap) (walkAt reading k .place)
 
 abbrev pub CompleteAt : Reading → ℕ → Type 0
 CompleteAt reading k = Complete (reading .long) (walkAt reading k)

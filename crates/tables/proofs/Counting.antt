@@ -16,6 +16,21 @@ all-counted (suc n) such =
     let before = all-counted n such in
     by-test (such n) (λ h. simp h (omega arith)) (λ h. simp h (omega arith))
 
+-- which of the first n are such decides
+pub same-many : (n : ℕ) (such other : ℕ → Bool) → ((k : ℕ) → k < n → such k ≡ other k) → howMany n such ≡ howMany n other
+unfolding howMany
+same-many zero such other same = refl
+same-many (suc n) such other same =
+    let before = same-many n such other (λ k h. same k (omega arith)) in
+    let last : such n ≡ other n = same n (omega arith) in
+    rw (before, last)
+
+-- they are those of the first m, and those of the n after them
+pub many-parts : (m n : ℕ) (such : ℕ → Bool) → howMany (m + n) such ≡ howMany m such + howMany n (λ k. such (m + k))
+unfolding howMany
+many-parts m zero such = let all : m + 0 ≡ m = omega arith in rw all (omega arith)
+many-parts m (suc n) such = let number : m + suc n ≡ suc (m + n) = omega arith in rw number (omega (arith, many-parts m n such))
+
 -- none of the first n is such
 pub none-such : (n : ℕ) (such : ℕ → Bool) → ((k : ℕ) → k < n → such k ≡ false) → howMany n such ≡ 0
 unfolding howMany

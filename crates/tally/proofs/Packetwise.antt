@@ -11,7 +11,7 @@ use Rattle.tables.proofs.Cases.{by-order, by-test}
 use Rattle.tables.proofs.Table.{table-sum-none, table-sum-more}
 use Rattle.packets.specs.Packet.{readSize, fileCount}
 use Rattle.packets.specs.Walk.{Walk, reach}
-use Rattle.packets.proofs.Packets.{whole-if, whole-says}
+use Rattle.packets.proofs.Packets.{full-if, full-says}
 use Rattle.packets.proofs.Reaches.{reach-most}
 use Rattle.packets.proofs.Walk.{steps-more, steps-place}
 use Rattle.tables.specs.Counting.{howMany}
@@ -76,12 +76,12 @@ module _ (s : ℕ → ℕ) (long : ℕ) (run : Run) where
     whole-before : (k : ℕ) → k < run .count → k < m → wholeAt (by s long (run ∷ [])) k ≡ true
     whole-before k h l =
         let e = ends-within (run .swap) m k (long - run .start .0) within l in
-        whole-if long _ _ (omega (arith, ends k h, e .0, e .1))
+        full-if long _ _ (omega (arith, ends k h, e .0, e .1))
 
     short-after : (k : ℕ) → k < run .count → m ≤ k → wholeAt (by s long (run ∷ [])) k ≡ false
     short-after k h l =
         by-test (wholeAt (by s long (run ∷ [])) k)
-        (λ whole. absurd (omega (arith, whole-says long _ _ whole, ends k h, ends-past (run .swap) m k (long - run .start .0) past l)))
+        (λ whole. absurd (omega (arith, full-says long _ _ whole, ends k h, ends-past (run .swap) m k (long - run .start .0) past l)))
         (λ short. short)
 
     short-upto : (n : ℕ) → n ≤ run .count → howMany n (λ k. not (wholeAt (by s long (run ∷ [])) k)) ≡ n - min n m

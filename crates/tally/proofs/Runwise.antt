@@ -10,7 +10,7 @@ use Rattle.tables.specs.Table.{table, sum}
 use Rattle.tables.proofs.Cases.{by-order}
 use Rattle.tables.proofs.Table.{same-table, table-sum-none, table-sum-more}
 use Rattle.blocks.specs.Headers.{countOf}
-use Rattle.packets.specs.Packet.{fileCount, isWhole}
+use Rattle.packets.specs.Packet.{fileCount, isFull}
 use Rattle.packets.specs.Walk.{Walk}
 use Rattle.tables.specs.Counting.{howMany}
 use Rattle.sp.specs.declared.Run.{Run}
@@ -64,11 +64,11 @@ module _ (s : ℕ → ℕ) where
   out-joined long xs ys =
       same-out (packetsOut (by s long (xs ++ ys))) (together (packetsOut (by s long xs)) (packetsOut (by s long ys)))
       (packets-joined xs ys)
-      (omega (arith, shorts (xs ++ ys), shorts xs, shorts ys, summed-joined (λ q swap. cond (not (isWhole long swap q)) 1 0) xs ys))
+      (omega (arith, shorts (xs ++ ys), shorts xs, shorts ys, summed-joined (λ q swap. cond (not (isFull long swap q)) 1 0) xs ys))
       (summed-joined (λ q swap. fileCount long swap q) xs ys)
     where
       shorts : (runs : List Run)
-          → howMany (packetsIn runs) (λ k. not (wholeAt (by s long runs) k)) ≡ summed (λ q swap. cond (not (isWhole long swap q)) 1 0) runs
+          → howMany (packetsIn runs) (λ k. not (wholeAt (by s long runs) k)) ≡ summed (λ q swap. cond (not (isFull long swap q)) 1 0) runs
       shorts runs = many-sum (packetsIn runs) (λ k. not (wholeAt (by s long runs) k))
 
 -- the first b of a DSS recording's blocks, of 255 packets at most each

@@ -17,7 +17,7 @@ use Rattle.detect.specs.declared.Kind.the-variants.{Sp}
 use Rattle.whole.specs.Admissions.{ds2Admission, typeIn}
 use Rattle.packets.specs.Packet.{readSize, from}
 use Rattle.packets.specs.Walk.{Walk, steps, byteOf, countAt, reach, parity}
-use Rattle.packets.proofs.Packets.{count-whole}
+use Rattle.packets.proofs.Packets.{count-full}
 use Rattle.packets.proofs.Walk.{reach-more, steps-place, steps-swap, steps-carry}
 use Rattle.packets.proofs.Longer.{Agree, same-packet}
 use Rattle.sp.specs.Runs.{runBegin}
@@ -70,7 +70,7 @@ module _ (n : ℕ) (p : ℕ → ℕ → ℕ) (s : ℕ → ℕ) (w : Walk) (place
 
   pub count-back : (k long : ℕ) → k < n → reach false n ≤ long → countAt long (steps s w k) ≡ readSize (parity false k)
   count-back k long h enough =
-      count-whole long (steps s w k .swap) (steps s w k .place)
+      count-full long (steps s w k .swap) (steps s w k .place)
       (omega (arith, place-at k, ap readSize (swap-at k), reach-more false k))
       ∙ ap readSize (swap-at k)
 

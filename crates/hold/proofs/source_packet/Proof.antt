@@ -3,7 +3,7 @@
 use Prim.Native.Nat.{_+_}
 use mathlib.Core.Path.{sym, _∙_}
 use denote.Ref.{now}
-use Rattle.packets.proofs.Packets.{count-whole}
+use Rattle.packets.proofs.Packets.{count-full}
 use Rattle.packets.proofs.Gathered.{gathered}
 use Rattle.hold.proofs.Through.{bears-agree}
 use borrow.Author.Needs.{needs}
@@ -41,7 +41,7 @@ returns c =
           gathered s (a .base .0 + 506) (a .swap) (a .carry) (a .q .0) (now (a .source)) _ _
           (bears-agree (now (a .source)) (a .at) (a .base .0) (a .q .0) (a .swap) (search needs) (search needs) s bears)
           (p .packet-bytes .ensures)
-          (r .read-size .ensures .0 ∙ sym (count-whole (a .base .0 + 506) (a .swap) (a .q .0) (search needs)))
+          (r .read-size .ensures .0 ∙ sym (count-full (a .base .0 + 506) (a .swap) (a .q .0) (search needs)))
           (c .carry-after .ensures)
           (search needs),
     )
