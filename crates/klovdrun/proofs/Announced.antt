@@ -4,7 +4,7 @@
 use Prim.Native.Nat.{ℕ, _+_, _*_, _≤_, _<_}
 use mathlib.Core.Path.{_≡_, refl, sym, ap, _∙_, subst}
 use mathlib.Core.List.{List}
-use mathlib.Core.Bool.{not, cond}
+use mathlib.Core.Bool.{true, not, cond}
 use mathlib.Core.Logic.{inl, inr}
 use native.Mathlib.Omega.{arith}
 use borrow.Author.Tests.{lt-ltb, not-false}
@@ -21,8 +21,9 @@ use Rattle.detect.specs.Kinds.{formatType, kindOf}
 use Rattle.whole.specs.declared.Recording.{Recording}
 use Rattle.whole.specs.Admissions.{admission}
 use Rattle.whole.proofs.Admissions.{dss-recording, ds2-recording}
-use Rattle.sp.specs.Readings.{Reading, total, wholeAt, CompleteAt}
-use Rattle.sp.proofs.Theorems.{whole-exactly}
+use Rattle.sp.specs.Readings.{Reading, total}
+use Rattle.sp.specs.Whole.{wholeAt}
+use Rattle.sp.proofs.Sourced.{whole-says}
 use Rattle.sp.proofs.ReadLists.{packets-announced}
 use Rattle.qp.specs.Segments.{segmentsFrom}
 use Rattle.qp.specs.Handed.{shortOf, missingFrom}
@@ -40,12 +41,12 @@ use Rattle.reader.specs.declared.Reader.{Reader}
 use Rattle.reader.specs.State.{isDss, startOf, blocksIn, readingBy, opened as fresh, Reached}
 use Rattle.reader.specs.History.{StrictCall, joined}
 use Rattle.reader.specs.Agreement.{wholeReading, Agrees}
-use Rattle.reader.specs.Complete.{CompleteRecording}
+use Rattle.reader.specs.Complete.{CompleteRecording, BeginsUnswapped}
 use Rattle.reader.proofs.Agreeing.{agrees-is, dss-start, ds2-start, not-scanned}
 use Rattle.reader.proofs.Laws.{at-state}
 use Rattle.reader.proofs.Total.{reached-opened}
 use Rattle.reader.proofs.Folding.{holding, opened-fed}
-use Rattle.reader.proofs.Complete.{complete-is-ended}
+use Rattle.reader.proofs.Complete.{all-whole, complete-is-ended}
 use Rattle.numbers.specs.declared.Answer.{Answer}
 use Rattle.numbers.specs.declared.Tallied.{Tallied}
 use Rattle.numbers.specs.Numbers.{tallyNumbers}
@@ -127,10 +128,10 @@ module _ (kind : ℕ) (f : List ℕ) (small : length f ≤ limit) (agrees : Agre
       let w = went-on (tallied f) (λ (figures : Figures). answers (figures .out)) (tallies kind f small agrees) in
       record { figures = w .0; is-theirs = is ∙ ap tallyNumbers (w .1); so = stands kind f small agrees (w .0) (w .1) }
 
-  -- if no packet is short, and no byte lies past the last whole block
-  pub tallied-as : ((k : ℕ) → k < total (readingBy kind f) → CompleteAt (readingBy kind f) k) → length f ≡ startOf kind + 512 * blocksIn kind f
-      → AsAnnounced told (length f)
-  tallied-as complete none-past =
+  -- if every packet is whole, and no byte lies past the last whole block
+  pub tallied-as : ((k : ℕ) → k < total (readingBy kind f) → wholeAt (readingBy kind f) k ≡ true)
+      → length f ≡ startOf kind + 512 * blocksIn kind f → AsAnnounced told (length f)
+  tallied-as whole none-past =
       let v = figured in
       let r = readingBy kind f in
       subst (λ (numbers : Tallied). AsAnnounced numbers (length f)) (sym (v .is-theirs))
@@ -139,36 +140,38 @@ module _ (kind : ℕ) (f : List ℕ) (small : length f ≤ limit) (agrees : Agre
         all-handed = v .so .as-announced;
         none-short =
             ap (λ (out : HandedOut). out .short) (v .so .hands)
-            ∙ none-such (total r) (λ k. not (wholeAt r k)) (λ k h. rw (whole-exactly r k .1 (complete k h)));
+            ∙ none-such (total r) (λ k. not (wholeAt r k)) (λ k h. ap not (whole k h));
         none-past = omega (arith, none-past, v .so .start-is, v .so .blocks-are);
       })
 
-  complete-tallied : {n : ℕ} {packets entries : List ℕ} → CompleteRecording kind f n packets entries → AsAnnounced told (length f)
-  complete-tallied c =
-      tallied-as (λ k h. c .all-complete k (omega (arith, c .all-read agrees .1))) (omega (arith, c .none-cut, agrees .full))
+  complete-tallied : {n : ℕ} {packets entries : List ℕ} → CompleteRecording kind f n packets entries → BeginsUnswapped entries
+      → AsAnnounced told (length f)
+  complete-tallied c begins =
+      tallied-as (λ k h. all-whole c .0 begins k (omega (arith, c .all-read agrees .1))) (omega (arith, c .none-cut, agrees .full))
 
-  tallied-complete : AsAnnounced told (length f)
+  tallied-whole : AsAnnounced told (length f)
       → (length f ≡ startOf kind + 512 * blocksIn kind f)
-      × ((k : ℕ) → k < announcedIn f (startOf kind) (blocksIn kind f) → CompleteAt (readingBy kind f) k)
-  tallied-complete rule =
+      × ((k : ℕ) → k < announcedIn f (startOf kind) (blocksIn kind f) → wholeAt (readingBy kind f) k ≡ true)
+  tallied-whole rule =
       let v = figured in
       let r = readingBy kind f in
       let numbers = subst (λ (numbers : Tallied). AsAnnounced numbers (length f)) (v .is-theirs) rule in
       let none : howMany (total r) (λ k. not (wholeAt r k)) ≡ 0 = sym (ap (λ (out : HandedOut). out .short) (v .so .hands)) ∙ numbers .none-short in (
         omega (arith, numbers .none-past, v .so .start-is, v .so .blocks-are),
         (λ k h.
-            whole-exactly r k .0
-            (not-false (wholeAt r k)
+            not-false (wholeAt r k)
             (none-counted (total r) (λ k. not (wholeAt r k)) none k
-            (omega (arith, packets-announced (isDss kind) f (startOf kind) (blocksIn kind f)))))),
+            (omega (arith, packets-announced (isDss kind) f (startOf kind) (blocksIn kind f))))),
       )
 
 -- A host that has opened a reader and given it a recording that is read as its kind, and the same host or another that has the whole recording: a
--- first strict end answers with refusal 0 exactly if the numbers of `klov_tally` say that it is complete as announced.
+-- first strict end answers with refusal 0, and the first count that came out is 42, or none did, exactly if the numbers of `klov_tally` say that
+-- it is complete as announced.
 pub one-rule : (kind : ℕ) {opened : Opened} → OpenCarries kind opened → opened .answer .refusal ≡ 0 → {pieces : List (List ℕ)} {n : ℕ}
     {packets entries : List ℕ} {last : Reader} → Given (opened .reader) pieces n packets entries last → {stored : Reader} {r : Answer}
     → Advances (StrictCall last) stored r → Agrees kind (joined pieces) → {told : Tallied} → told ≡ tallyNumbers (tallied (joined pieces))
-    → (r .refusal ≡ 0 → AsAnnounced told (length (joined pieces))) × (AsAnnounced told (length (joined pieces)) → r .refusal ≡ 0)
+    → (r .refusal ≡ 0 → BeginsUnswapped entries → AsAnnounced told (length (joined pieces)))
+    × (AsAnnounced told (length (joined pieces)) → (r .refusal ≡ 0) × BeginsUnswapped entries)
 one-rule kind carries begun {pieces = pieces} given {stored} {r} c agrees is =
     let f = joined pieces in
     let opens = carries .comes in
@@ -177,16 +180,20 @@ one-rule kind carries begun {pieces = pieces} given {stored} {r} c agrees is =
     let v = opened-fed kind _ opens kind-is fed in
     let known : Reached _ = record { state = holding (fresh kind) f; is = v .reader-is; sound = v .sound } in
     let tells = strict-end-tells known c in (
-      (λ ended. complete-tallied kind f (v .sound .small) agrees is (told-complete kind carries begun given c ended)),
+      (λ ended begins. complete-tallied kind f (v .sound .small) agrees is (told-complete kind carries begun given c ended) begins),
       (λ rule.
-          let so = tallied-complete kind f (v .sound .small) agrees is rule in
+          let so = tallied-whole kind f (v .sound .small) agrees is rule in
           let said =
-          complete-is-ended kind _ opens kind-is fed (agrees .full) (so .0) (so .1) {step = stepTo stored (c .carries .answer)} (c .carries .comes) in
+          complete-is-ended kind _ opens kind-is fed (agrees .full) (so .0) (λ k h. whole-says (readingBy kind f) k (so .1 k h) .0)
+          {step = stepTo stored (c .carries .answer)} (c .carries .comes) in
+          let ended : r .refusal ≡ 0 =
           by-order 0 (r .refusal)
           (λ some.
           let why = tells .above some in
           absurd (not-both (sym (why .1) ∙ sym (at-state known (c .carries .comes) .answer-is) ∙ said)))
-          (λ none. omega (arith, none))),
+          (λ none. omega (arith, none)) in
+          let complete = told-complete kind carries begun given c ended in
+          (ended, all-whole complete .1 (λ k h. so .1 k (omega (arith, complete .none-owed))))),
     )
 
 -- Of a QP file that is complete as announced no frame is missing, and none is short.

@@ -6,14 +6,16 @@ use mathlib.Core.List.{List, _++_}
 use mathlib.Core.Bool.{true}
 use native.Mathlib.Omega.{arith}
 use lib.ListN.{length, take, length-take, length-append}
-use Rattle.tables.proofs.Cases.{by-order, never}
+use Rattle.tables.proofs.Cases.{by-order, by-test, never}
 use Rattle.blocks.specs.Places.{limit}
 use Rattle.refusals.specs.Numbers.{numbered}
 use Rattle.refusals.specs.Said.{answers, refusal, isAmong}
 use Rattle.refusals.proofs.Said.{not-both, by-numbers, for-the-answer}
 use Rattle.packets.specs.Packet.{readSize}
 use Rattle.sp.specs.Readings.{Reading, total, CompleteAt}
+use Rattle.sp.specs.Whole.{wholeAt}
 use Rattle.sp.proofs.Theorems.{complete-exactly}
+use Rattle.sp.proofs.Whole.{short-before-unswapped}
 use Rattle.writing.specs.Laying.{manyIn, byteIn}
 use Rattle.writing.specs.Outcome.{writtenSays}
 use Rattle.writing.specs.Writable.{fileSize, Writable, Unwritable}
@@ -104,15 +106,23 @@ module _ {header packets out out′ : List ℕ} {r : Answer} (c : WriteCarries h
   pub written-complete : {told : Tallied} → told ≡ tallyNumbers (tallied (take (r .first) out′)) → AsAnnounced told (length (take (r .first) out′))
   written-complete is =
       let w = written-is-sp header packets out out′ (c .answer) (c .comes) (r .first) says in
-      tallied-as 0 (take (r .first) out′) small written-agrees is complete (omega (arith, w .3, ds2-start 0 refl))
+      tallied-as 0 (take (r .first) out′) small written-agrees is whole (omega (arith, w .3, ds2-start 0 refl))
     where
       back : ReadsBack packets (take (r .first) out′) (told-reads-back .0)
       back = told-reads-back .1
 
-      complete : (k : ℕ) → k < total (readingBy 0 (take (r .first) out′)) → CompleteAt (readingBy 0 (take (r .first) out′)) k
-      complete =
-          for-the-answer (λ x. (k : ℕ) → k < total x → CompleteAt x k)
+      complete : (k : ℕ) → k < total (told-reads-back .0) → CompleteAt (told-reads-back .0) k
+      complete k h = complete-exactly (told-reads-back .0) k .1 (back .full k h ∙ ap readSize (sym (back .swapped k h)))
+
+      whole : (k : ℕ) → k < total (readingBy 0 (take (r .first) out′)) → wholeAt (readingBy 0 (take (r .first) out′)) k ≡ true
+      whole =
+          for-the-answer (λ x. (k : ℕ) → k < total x → wholeAt x k ≡ true)
           (sym (back .is-read) ∙ agrees-is 0 (take (r .first) out′) small written-agrees)
           (λ k h.
           let reading = told-reads-back .0 in
-          complete-exactly reading k .1 (back .full k h ∙ ap readSize (sym (back .swapped k h))))
+          by-test (wholeAt reading k) (λ t. t)
+          (λ short.
+          absurd
+          (never
+          (short-before-unswapped reading k (λ j upto. complete j (omega arith)) .0 short 0 (omega arith))
+          (back .swapped 0 (omega arith)))))

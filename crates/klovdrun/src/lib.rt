@@ -26,7 +26,7 @@ ghost use Rattle.klovdrun.specs.Version.{version};
 ghost use Rattle.klovdrun.specs.Wrapped.{SpCarries, QpCarries, Qp7Carries, FillCarries, WriteCarries, OpenCarries, Advances};
 
 // The version of the boundary.
-const VERSION: u64 = 3;
+const VERSION: u64 = 4;
 
 // A fresh reader beside the answer.
 #[repr(C)]

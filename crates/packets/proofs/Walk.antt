@@ -34,7 +34,7 @@ reach-none : (swap : Bool) → reach swap 0 ≡ 0
 reach-none true = refl
 reach-none false = refl
 
-parity-flips : (swap : Bool) (k : ℕ) → parity swap (suc k) ≡ not (parity swap k)
+pub parity-flips : (swap : Bool) (k : ℕ) → parity swap (suc k) ≡ not (parity swap k)
 parity-flips swap k =
     by-equal (k % 2) 0
     (λ even. let odd : suc k % 2 ≡ 0 → ⊥ = λ e. omega arith in simp (eq-eqb _ _ even, ne-eqb _ _ odd))

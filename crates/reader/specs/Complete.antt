@@ -1,10 +1,10 @@
--- What a recording is that came out of a reader and is complete.
+-- What a recording is that came out of a reader and is complete, and when all that came out is whole.
 -- Assumes nothing.
 use Prim.Native.Nat.{ℕ, _+_, _*_, _≤_, _<_}
 use mathlib.Core.Path.{_≡_}
 use mathlib.Core.List.{List, []}
 use mathlib.Core.Logic.{_⊎_}
-use lib.ListN.{length}
+use lib.ListN.{length, getD}
 use Rattle.blocks.specs.Headers.{announcedIn}
 use Rattle.refusals.specs.Said.{answers}
 use Rattle.sp.specs.Readings.{total, CompleteAt}
@@ -24,3 +24,7 @@ pub record CompleteRecording (kind : ℕ) (f : List ℕ) (n : ℕ) (packets entr
   pub counts-are : entries ≡ countsFrom (readingBy kind f) 0 n
   pub all-complete : (k : ℕ) → k < n → CompleteAt (readingBy kind f) k
   pub all-read : Agrees kind f → (wholeReading kind f ≡ answers (readingBy kind f)) × (n ≡ total (readingBy kind f))
+
+-- the first of the counts that came out is 42, or none came out. Of a complete recording that is to say that it does not begin swapped
+abbrev pub BeginsUnswapped : List ℕ → Type 0
+BeginsUnswapped entries = getD entries 0 42 ≡ 42

@@ -29,13 +29,13 @@ use Rattle.whole.proofs.Admissions.{dss-at, ds2-at, bare-header, cut-header, em
 use Rattle.packets.specs.Packet.{readSize, carryAfter, from, isFull}
 use Rattle.packets.specs.Start.{dssStart}
 use Rattle.packets.specs.Walk.{Walk, byteOf, reach, parity}
-use Rattle.packets.proofs.Packets.{full-says, full-if, count-full}
+use Rattle.packets.proofs.Packets.{full-says, count-full}
 use Rattle.packets.proofs.Walk.{steps-place, steps-swap}
 use Rattle.sp.specs.declared.Run.{Run}
 use Rattle.sp.specs.declared.Demuxed.{Demuxed}
 use Rattle.sp.specs.Runs.{runBegin, carryPast}
 use Rattle.sp.specs.ReadLists.{dssRun, dssRuns, ds2Run, ds2Runs}
-use Rattle.sp.specs.Readings.{Reading, total, walkAt, packetAt, fileCountAt, wholeAt, CompleteAt, joinedByteAt, readingOf, dssReading, ds2Reading}
+use Rattle.sp.specs.Readings.{Reading, total, walkAt, packetAt, fileCountAt, CompleteAt, joinedByteAt, readingOf, dssReading, ds2Reading}
 use Rattle.sp.specs.Outcome.{roomIn, inRoom, answered, outAfter, countsAfter, demuxedSays, Demuxes}
 use Rattle.sp.specs.Written.{Written}
 use Rattle.sp.specs.Longer.{SameAt}
@@ -104,13 +104,6 @@ complete-exactly r k = (
   (λ complete. count-full (r .long) (walkAt r k .swap) (walkAt r k .place) complete),
   (λ full.
       full-says (r .long) (walkAt r k .swap) (walkAt r k .place) (eq-eqb (fileCountAt r k) (readSize (walkAt r k .swap)) full)),
-)
-
--- A packet is whole exactly when that is so.
-pub whole-exactly : (r : Reading) (k : ℕ) → (wholeAt r k ≡ true → CompleteAt r k) × (CompleteAt r k → wholeAt r k ≡ true)
-whole-exactly r k = (
-  (λ whole. full-says (r .long) (walkAt r k .swap) (walkAt r k .place) whole),
-  (λ complete. full-if (r .long) (walkAt r k .swap) (walkAt r k .place) complete),
 )
 
 -- What is taken is handed out exactly if there is room for all of it, and is otherwise refused by 8 with the packets needed.

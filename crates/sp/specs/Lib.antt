@@ -2,6 +2,7 @@
 pub mod Runs
 pub mod ReadLists
 pub mod Readings
+pub mod Whole
 pub mod Outcome
 pub mod Written
 pub mod Longer

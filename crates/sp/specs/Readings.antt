@@ -3,14 +3,13 @@
 -- Assumes nothing.
 use Prim.Native.Nat.{ℕ, _*_, _/_, _%_}
 use mathlib.Core.List.{List}
-use mathlib.Core.Bool.{Bool, true, false}
+use mathlib.Core.Bool.{true, false}
 use Rattle.tables.specs.Table.{table}
 use Rattle.blocks.specs.Places.{streamAt}
 use Rattle.refusals.specs.Said.{Said, answers, onward}
 use Rattle.whole.specs.declared.Recording.{Recording}
 use Rattle.detect.specs.declared.Kind.the-variants.{Sp}
 use Rattle.whole.specs.Admissions.{admission, ds2Admission}
-use Rattle.packets.specs.Packet.{isFull}
 use Rattle.packets.specs.Walk.{Walk, byteOf, countAt, Complete}
 use Rattle.sp.specs.declared.Run.{Run}
 use Rattle.sp.specs.Runs.{packetsIn, standsAt}
@@ -42,10 +41,7 @@ packetAt reading k = table 42 (byteOf (reading .stream) (walkAt reading k))
 abbrev pub fileCountAt : Reading → ℕ → ℕ
 fileCountAt reading k = countAt (reading .long) (walkAt reading k)
 
--- packet k is whole; and all the bytes of its read came from the file, which is the same (`whole-exactly`)
-abbrev pub wholeAt : Reading → ℕ → Bool
-wholeAt reading k = isFull (reading .long) (walkAt reading k .swap) (walkAt reading k .place)
-
+-- all the bytes of its read came from the file: that is so exactly when its count is its read size (`complete-exactly`)
 abbrev pub CompleteAt : Reading → ℕ → Type 0
 CompleteAt reading k = Complete (reading .long) (walkAt reading k)
 

@@ -5,7 +5,10 @@ use mathlib.Core.Path.{_≡_, refl, sym, ap, _∙_}
 use mathlib.Core.List.{List}
 use mathlib.Core.Bool.{not}
 use mathlib.Core.Logic.{_⊎_, ⊎-elim}
+use native.Mathlib.Omega.{arith}
 use Rattle.tables.specs.Settled.{SettledResult}
+use Rattle.tables.proofs.Cases.{by-order, never}
+use Rattle.tables.proofs.Counting.{none-counted}
 use Rattle.blocks.specs.Headers.{Bytes}
 use Rattle.refusals.specs.declared.Refusal.{Refusal}
 use Rattle.refusals.specs.Numbers.{OfRecord}
@@ -18,7 +21,12 @@ use Rattle.whole.specs.declared.Recording.{Recording}
 use Rattle.whole.specs.Admissions.{admission, announcedBy, streamIn}
 use Rattle.whole.proofs.Admissions.{no-magic}
 use Rattle.whole.proofs.Refusing.{admitting}
+use Rattle.sp.specs.declared.Run.{Run}
+use Rattle.sp.specs.ReadLists.{dssRuns, ds2Runs}
+use Rattle.sp.specs.Readings.{total, readingOf}
+use Rattle.sp.specs.Whole.{wholeAt}
 use Rattle.sp.proofs.ReadLists.{ds2-packets, dss-packets}
+use Rattle.sp.proofs.Whole.{begun-swapped}
 use Rattle.qp.specs.Segments.{segmentsFrom}
 use Rattle.qp.specs.Handed.{shortOf, missingFrom}
 use Rattle.qp.proofs.Kept.{totals-add-up, handed-or-missing}
@@ -32,9 +40,9 @@ use Rattle.tally.specs.declared.FileKind.the-variants.{DssSp, Ds2Sp, Ds2
 use Rattle.tally.specs.declared.Figures.{Figures}
 use Rattle.tally.specs.declared.Tallied.{Tallied}
 use Rattle.tally.specs.declared.Tallied.the-variants.{Counted, Refused}
-use Rattle.tally.specs.HandedOut.{recordsOut}
+use Rattle.tally.specs.HandedOut.{packetsOut, recordsOut}
 use Rattle.tally.specs.Tallies.{handedBy, countedAs, kindIn, tallied, tallyRefusals, talliedSays}
-use Rattle.tally.specs.Agreement.{kindFor, wholeOut, talliedOut}
+use Rattle.tally.specs.Agreement.{kindFor, wholeOut, talliedOut, ShortAre}
 use Rattle.tally.proofs.Agreeing.{agrees, counting}
 use Rattle.tally.proofs.Refusing.{tallying}
 use Rattle.tally.proofs.tally.Kinds as tally
@@ -73,6 +81,33 @@ module _ (f : List ℕ) (figures : Figures) (says : tallied f ≡ answers figure
     where
       AsAnnounced : HandedOut → Type 0
       AsAnnounced out = out .many ≡ figures .announced
+
+  -- Short among them are those that are not whole, and at least the first of a recording that begins swapped.
+  pub short-packets : (figures .kind ≡ DssSp → ShortAre f dssRuns (figures .out .short))
+      × (figures .kind ≡ Ds2Sp → ShortAre f ds2Runs (figures .out .short))
+  short-packets = (
+    (λ dss. short-are dssRuns (for-the-answer (λ (out : HandedOut). out ≡ of dssRuns) (handed-by DssSp dss) refl)),
+    (λ ds2. short-are ds2Runs (for-the-answer (λ (out : HandedOut). out ≡ of ds2Runs) (handed-by Ds2Sp ds2) refl)),
+  )
+    where
+      of : (List ℕ → ℕ → ℕ → List Run) → HandedOut
+      of runs = packetsOut (readingOf f (counting f figures says .rec) runs)
+
+      short-are : (runs : List ℕ → ℕ → ℕ → List Run) → figures .out ≡ of runs → ShortAre f runs (figures .out .short)
+      short-are runs hands =
+          let c = counting f figures says in
+          let r = readingOf f (c .rec) runs in
+          let short = ap (λ (out : HandedOut). out .short) hands in
+          record {
+            rec = c .rec;
+            taken = c .taken;
+            short-is = short;
+            begun-swapped = λ some swapped.
+                by-order 0 (figures .out .short) (λ h. h)
+                (λ none.
+                absurd
+                (never (ap not (begun-swapped r swapped)) (none-counted (total r) (λ k. not (wholeAt r k)) (omega (arith, short)) 0 some)));
+          }
 
   -- A QP recording hands out all frames that it announces, but for those that are missing from its segments, and short ones are those of its
   -- segments.

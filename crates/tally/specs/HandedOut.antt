@@ -6,7 +6,8 @@ use mathlib.Core.Bool.{not}
 use lib.ListN.{length}
 use Rattle.tables.specs.Table.{table, sum, sumOf}
 use Rattle.tables.specs.Counting.{howMany}
-use Rattle.sp.specs.Readings.{Reading, total, wholeAt, fileCountAt}
+use Rattle.sp.specs.Readings.{Reading, total, fileCountAt}
+use Rattle.sp.specs.Whole.{wholeAt}
 use Rattle.qp.specs.declared.Segment.{Segment}
 use Rattle.qp.specs.Handed.{handedOutOf, shortOf, bytesIn}
 use Rattle.qp7.specs.Records.{recordSize}

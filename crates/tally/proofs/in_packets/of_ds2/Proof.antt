@@ -1,13 +1,15 @@
 -- `tally::in_packets::of_ds2` meets its contract: no blocks announce nothing, and otherwise there is one run.
 -- Assumes nothing.
 use mathlib.Core.Path.{ap, _∙_}
+use mathlib.Core.List.{[]}
 use native.Mathlib.Omega.{arith}
 use denote.Ref.{now}
 use Rattle.blocks.specs.Headers.{announcedIn}
 use Rattle.blocks.proofs.Headers.{announced-none, announced-most}
 use Rattle.whole.proofs.Admissions.{few-blocks}
 use Rattle.sp.proofs.ReadLists.{ds2-packets}
-use Rattle.tally.proofs.Packetwise.{nothing-out}
+use Rattle.tally.proofs.Packetwise.{nothing-out, run-alone}
+use Rattle.tally.proofs.Runwise.{none-past}
 use borrow.Author.Needs.{needs}
 use Rattle.tally.proofs.in_packets.of_ds2.Statement.{statement}
 use Rattle.tally.proofs.in_packets.of_ds2.Tie as tie
@@ -36,7 +38,7 @@ returns-2 : tie.Need-returns-2
 returns-2 c =
     let w = c .before in
     let s = w .before .before .before .before in
-    rw (← w .swap-flag .ensures, ← s .pre .1) (c .of-run .ensures .0 _)
+    rw (← w .swap-flag .ensures, ← s .pre .1) (run-alone _ _ _ _ (c .of-run .ensures .0 _ [] (none-past _ _)))
 
 pub of-ds2-spec : {M : Type 1} → statement M
 of-ds2-spec = tie.close (tie.spec returns swap-flag-requires mul-of-run of-run-requires returns-2)

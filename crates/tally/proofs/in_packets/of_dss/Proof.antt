@@ -10,11 +10,11 @@ use Rattle.tally.proofs.in_packets.of_dss.Statement.{statement}
 use Rattle.tally.proofs.in_packets.of_dss.Tie as tie
 
 abbrev Inv-loop : tie.InvT-loop
-Inv-loop file start blocks long out₀ block₀ out block =
-    Runwise file (start .0) blocks (streamAt file (start .0) blocks) long block out
+Inv-loop file start blocks long out₀ sourced₀ block₀ out sourced block =
+    Runwise file (start .0) blocks (streamAt file (start .0) blocks) long block out sourced
 
 abbrev μ-loop : tie.MeasureT-loop
-μ-loop file start blocks long out₀ block₀ out block = blocks - block
+μ-loop file start blocks long out₀ sourced₀ block₀ out sourced block = blocks - block
 
 mul-long : tie.Need-mul-long Inv-loop μ-loop
 mul-long c =
@@ -39,6 +39,11 @@ together-requires c κs =
     let s = c .before .before .before .before .before .before in
     omega (arith, few-blocks _ (s .args .recording) (s .pre))
 
+sourced-past-requires : tie.Need-sourced-past-requires Inv-loop μ-loop
+sourced-past-requires c κs =
+    let s = c .before .before .before .before .before .before .before in
+    omega (arith, few-blocks _ (s .args .recording) (s .pre))
+
 add-block : tie.Need-add-block Inv-loop μ-loop
 add-block c = search needs
 
@@ -47,10 +52,14 @@ loop-less c = search needs
 
 loop-again : tie.Need-loop-again Inv-loop μ-loop
 loop-again c =
-    let o = c .before in
+    let t = c .before in
+    let o = t .before in
     let r = o .before in
     let l = r .before .before .loop in
-    runs-go-on _ _ _ _ _ (l .block) (r .dss-run .result) (l .out) (o .of-run .result) _ (r .before .loop-test .taken) (r .dss-run .ensures) (l .inv) (o .of-run .ensures .0 _) (o .of-run .ensures .1) (c .together .ensures)
+    let v = l .inv in
+    runs-go-on _ _ _ _ _ (l .block) (r .dss-run .result) (l .out) (o .of-run .result) _ (l .sourced) _ (r .before .loop-test .taken)
+    (r .dss-run .ensures) v (o .of-run .ensures .0 _ _ (v .sourced-is)) (o .of-run .ensures .1) (t .together .ensures)
+    (c .sourced-past .ensures _ _ (v .sourced-is))
 
 returns : tie.Need-returns Inv-loop μ-loop
 returns c = runs-end _ _ _ _ _ (c .loop-test .left) (c .before .loop .inv)
@@ -66,6 +75,7 @@ of-dss-spec =
     dss-run-requires
     of-run-requires
     together-requires
+    sourced-past-requires
     add-block
     loop-less
     loop-again

@@ -1,9 +1,10 @@
 -- `tally::in_packets::of_run` meets its contract: the reads that end within the bytes that are left are complete, and no others.
 -- Assumes nothing.
-use mathlib.Core.Path.{refl}
+use Prim.Native.Nat.{min}
+use mathlib.Core.Path.{_≡_, refl}
 use native.Mathlib.Omega.{arith}
 use Rattle.packets.proofs.Reaches.{reach-most}
-use Rattle.tally.proofs.Packetwise.{run-out}
+use Rattle.tally.proofs.Packetwise.{run-adds}
 use borrow.Author.Needs.{needs}
 use Rattle.tally.proofs.in_packets.of_run.Statement.{statement}
 use Rattle.tally.proofs.in_packets.of_run.Tie as tie
@@ -23,15 +24,25 @@ reach-requires c κs = search needs
 lesser-requires-2 : tie.Need-lesser-requires-2
 lesser-requires-2 c κs = search needs
 
-sub-t9 : tie.Need-sub-t9
-sub-t9 c = search needs
+ours-in-requires : tie.Need-ours-in-requires
+ours-in-requires c κs = search needs
+
+sub-t11 : tie.Need-sub-t11
+sub-t11 c = search needs
+
+add-t12 : tie.Need-add-t12
+add-t12 c = search needs
 
 returns : tie.Need-returns
 returns c =
-    let l = c .before .before .before .before in
-    let w = c .before .before .before .reads-within in
-    let a = l .before .args in (
-      (λ s. run-out s (a .long) (a .run) (w .result) (omega arith) (omega arith) _ refl (omega arith) (omega arith)),
+    let l = c .before .before .before .before .before in
+    let w = c .before .before .before .before .reads-within in
+    let a = l .before .args in
+    let complete : c .before .before .before .lesser .result ≡ min (a .run .count) (w .result) = omega arith in (
+      (λ s runs is.
+          run-adds s (a .long) runs (a .run) (w .result) (omega arith) (omega arith) (a .sourced) is _ refl
+          (rw (← complete) (omega (arith, c .ours-in .ensures .0)))
+          (omega arith)),
       omega (arith, reach-most (a .run .swap) (a .run .count)),
     )
 
@@ -44,5 +55,7 @@ of-run-spec =
     lesser-requires
     reach-requires
     lesser-requires-2
-    sub-t9
+    ours-in-requires
+    sub-t11
+    add-t12
     returns)
