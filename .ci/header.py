@@ -3,7 +3,8 @@ crates/klovdrun and the structs that they answer say.
 
 Reads the exports' signatures and the structs from the Rattle sources, writes what C and Rust must say of them, and compares: names, order,
 types, sizes, constants, the version, the refusals of each call with their names and sentences, the numbers of formats and kinds, and the
-functions that the archive has. The rule for "complete as announced" is word for word the same in the header, in README and in the crate.
+functions that the archive has. The rule for "complete as announced" is word for word the same in the header, in README and in the crate; and
+what it says of a recording that begins swapped is so in the help of both intakes.
 Rests on the sources' own layout, which `rt fmt` keeps, and on the programs that the environment names as CC and NM.
 """
 import os
@@ -19,6 +20,8 @@ CONSTANTS = {"LIMIT": "blocks::LIMIT", "PACKET": "packets::PACKET", "FRAME": "fr
 IN_HEADER = ("LIMIT", "PACKET", "FRAME", "BLOCK", "PAYLOAD", "QP_WORDS", "QP7_WORDS")
 IN_RUST = ("LIMIT", "PACKET", "FRAME", "PAYLOAD", "BLOCK", "QP_WORDS", "QP7_WORDS")
 BESIDE = {2: "LIMIT", 7: "HOLD", 17: "LIMIT"}  # refusals whose number beside is a constant
+HELPS = {"host/c/intake.c": r'^static const char help\[\] =\n(.*?);\n\n',
+         "host/examples/intake.rs": r'^const HELP: &str = "\\\n(.*?)^";$'}  # where the help of the intakes stands
 LISTS = ("crates/klovdrun/specs/Refusals.antt", "crates/tally/specs/Tallies.antt")  # where the exports' lists of refusals are defined
 wrong = []
 
@@ -231,6 +234,18 @@ def check_rule(header, rule, readme):
                 say(where, "the rule for complete as announced, word for word", f"not so: {squeeze(part)[:60]}..")
 
 
+def check_help(rule):
+    """The rule's part on recordings that begin swapped stands in the help of both intakes, but for the ends of lines and C's quotes."""
+    part = next((squeeze(part) for part in rule.split("\n\n") if part.startswith("A recording that begins swapped ")), None)
+    if part is None:
+        say("rule", "a part on recordings that begin swapped", "none")
+        return
+    for path, pattern in HELPS.items():
+        found = re.search(pattern, text(path), re.S | re.M)
+        if not found or part not in squeeze(re.sub(r'\\n|"', " ", found.group(1))):
+            say(f"{path}, help", "what the rule says of recordings that begin swapped, word for word", found and f"not so: {part[:60]}..")
+
+
 def check_archive(archive):
     listed = subprocess.run([os.environ.get("NM", "nm"), archive], capture_output=True, text=True, check=True).stdout
     compare("archive", sorted(name for name, _, _ in exports()), sorted(re.findall(r" T (klov_\w+)$", listed, re.M)))
@@ -275,6 +290,7 @@ def main():
     check_rust(text(folder + "/raw.rs"), text(folder + "/lib.rs"))
     check_names(text(header), text(folder + "/error.rs"))
     check_rule(text(header), text(folder + "/complete.md"), text(readme))
+    check_help(text(folder + "/complete.md"))
     check_compiled(header)
     check_used(header)
     check_quote(text("host/README.md"), text("compare/decoder/error.rs"))

@@ -16,10 +16,12 @@
  * Bytes, lengths and numbers are otherwise free: every input has an answer or a refusal.
  *
  * PACKETS. A call that hands out packets takes `out` and `counts`. Packet i of its answer is the KLOV_PACKET bytes from out[KLOV_PACKET * i]
- * on, and counts[i] says how many bytes of its read came from the recording. A read has 42 bytes, or 40 if it is swapped, and a packet
- * with fewer is short: the rest of it are zeros that nobody recorded. Which reads are swapped the block headers say, so that a count of 40
- * alone does not tell. Every call starts again at out[0] and counts[0], a reader's too, and klov_ds2_sp_packet's one packet stands there
- * whatever its number is; what lies past the packets handed out is as it was.
+ * on, and counts[i] says how many bytes of its read came from the recording. A read has 42 bytes, or 40 if it is swapped; byte 1 of a swapped
+ * packet is not of its read but carried to it, byte 40 of the last unswapped read before it, in DSS be it an earlier block's. A packet is whole
+ * if all bytes of its read came from the recording and, where it is swapped, its carried byte too; before any unswapped read that one is ours.
+ * Else it is short: what is missing in it are zeros that nobody recorded. Which reads are swapped the block headers say, so that a count of 40
+ * alone does not tell; nor does a full count of a swapped packet say that it is whole. Every call starts again at out[0] and counts[0], a
+ * reader's too, and klov_ds2_sp_packet's one packet stands there whatever its number is; what lies past the packets handed out is as it was.
  * Room is the smaller of out_len / KLOV_PACKET and counts_len.
  *
  * A READER takes an SP recording in pieces. It reads, drains, or has ended:
@@ -37,9 +39,13 @@
  * In pieces: the recording begins `\x02dss` or `\x03dss` and the reader was opened with that first byte, or it begins `\x01ds2` or `\x03ds2`
  * and the reader was opened with 0 (`\x07ds2` is never read in pieces: its audio start is not a reader's); at least its audio start was
  * taken; for DS2 the first announcing block's type is one that is read as SP (with none it is an empty recording); every piece was accepted,
- * in order; and the strict end answered before any lenient end.
+ * in order; the strict end answered before any lenient end; and the recording does not begin swapped: its first packet's count is 42, or it
+ * has no packet.
  *
  * Whole, of any kind: the tally answered, handed out is announced, short is 0, and no byte lies past the last whole block.
+ *
+ * A recording that begins swapped (DS2: by block 0's flag; DSS: by the first announcing block's) has one or more packets whose carried byte is
+ * ours, a zero that nobody recorded: the tally counts them short, and no host calls it complete.
  *
  * What says nothing: an end on no input (it answers, and there is no recording), a strict end after a lenient one, any end on a reader that
  * open refused, all of which answer 0; a reader opened for another kind, or one of kind 0 that is fed a `\x07ds2` recording: `klov_open` and
@@ -88,7 +94,7 @@ extern "C" {
 #endif
 
 /* The version of all that is said here. It goes up with every change of an answer or of a layout; klov_version tells the archive's. */
-#define KLOV_VERSION 3u
+#define KLOV_VERSION 4u
 /* The longest input, and the longest file that is written, in bytes. */
 #define KLOV_LIMIT 268435456u
 /* Bytes of a packet, of a QP frame (and so of a scratch), of a block, and of a block's payload. */
@@ -169,7 +175,8 @@ typedef struct {
 } klov_answer;
 
 /* The tally of a file: its kind, where its audio starts, how many whole blocks follow, how many frames they announce; how many packets,
- * frames or records the whole reading hands out, how many of them are short, and how many bytes of the file they have. On a refusal these
+ * frames or records the whole reading hands out, how many of them are short, and how many bytes of the file they have. Short are packets as
+ * PACKETS above has it, also where the carried byte alone is ours, and QP frames under KLOV_FRAME bytes; no QP7 record is. On a refusal these
  * seven are 0. `size` and `absent` are as in klov_answer. */
 typedef struct {
     uint64_t refusal;
@@ -221,10 +228,11 @@ KLOV_MUST_USE klov_answer klov_demux_ds2_sp(const uint8_t *file, size_t file_len
 
 /* Any packet of a DS2 SP file at once, by its number, from 0: the bytes and the count that klov_demux_ds2_sp gives under that number, the
  * carried byte and the padding past the stream's end included. first: 1; the packet is in the first KLOV_PACKET bytes of out, its count in
- * counts[0]. Its read is swapped if the first block's flag is set and the number is even, or it is not set and the number is odd. No packet before
- * it is walked over, so that what a call costs does not grow with the number; but each call reads the count bytes of all whole blocks, some three
- * instructions a block, for how many packets are announced, and looks for audio start and type as every whole call does. With 0 announced every
- * number is refused, by 18 with 0. Beside 8 stands 1. Refusals 1, 2, 3, 11, 18, 8. */
+ * counts[0]. Its read is swapped if the first block's flag is set and the number is even, or it is not set and the number is odd. In DS2 a packet
+ * of a full count is whole, since its carried byte stands two places before its read; but not packet 0 if it is swapped, to which none was carried.
+ * No packet before it is walked over, so that what a call costs does not grow with the number; but each call reads the count bytes of all whole
+ * blocks, some three instructions a block, for how many packets are announced, and looks for audio start and type as every whole call does. With 0
+ * announced every number is refused, by 18 with 0. Beside 8 stands 1. Refusals 1, 2, 3, 11, 18, 8. */
 KLOV_MUST_USE klov_answer klov_ds2_sp_packet(const uint8_t *file, size_t file_len, size_t number, uint8_t *out, size_t out_len, uint8_t *counts, size_t counts_len);
 
 /* All segments of a QP file, KLOV_QP_WORDS words each: start in the payload stream, length in bytes, frames, reset. first: segments; second:
@@ -262,18 +270,21 @@ KLOV_MUST_USE klov_opened klov_open(uint64_t kind);
 KLOV_MUST_USE klov_answer klov_piece(klov_reader *reader, const uint8_t *src, size_t src_len, uint8_t *out, size_t out_len, uint8_t *counts, size_t counts_len);
 
 /* The strict end hands out nothing, and ends the reader of a recording that ends with a whole block and owes nothing. Refusals 6, 3, 13, 14.
- * What its answer says of the recording is the rule above: on no input it answers too. */
+ * What its answer says of the recording is the rule above: on no input it answers too, and for a recording that begins swapped. Once it has
+ * answered, before any lenient end, every packet that was handed out is whole but the swapped ones before the first unswapped read, and all
+ * counts are full: the short ones are the leading counts of 40. */
 KLOV_MUST_USE klov_answer klov_strict_end(klov_reader *reader);
 
 /* The lenient end drops a block that is not whole, and hands out packets that are owed, zeros where the file has no bytes, as many as there
- * is room for. It is asked again while second is above 0. Refusal 3. */
+ * is room for. In DSS one of them can have its full count and be short, by a carried byte that is such a zero. It is asked again while second is
+ * above 0. Refusal 3. */
 KLOV_MUST_USE klov_answer klov_lenient_end(klov_reader *reader, uint8_t *out, size_t out_len, uint8_t *counts, size_t counts_len);
 
 /* A DS2 SP file: the header as it is, KLOV_DS2_START bytes that begin `\x01ds2` or `\x03ds2`, and blocks of the packets, which are joined,
- * KLOV_PACKET bytes each, byte 40 of each 0, as the SP calls hand them out. Read whole it gives the same packets, each with its full count,
- * and it is complete as announced: zeros that stand for bytes that were missing are then bytes of the file like others. first: bytes of the
- * file, which are the first of `out`; what lies past them is as it was. With no room, out_len 0, a call says by 8 how many bytes the file has.
- * Refusals 15, 16, 17, 8. */
+ * KLOV_PACKET bytes each, byte 40 of each 0, as the SP calls hand them out. Read whole it gives the same packets, each with its full count and
+ * whole, since it begins unswapped, and it is complete as announced: zeros that stand for bytes that were missing, carried ones too, are then
+ * bytes of the file like others. first: bytes of the file, which are the first of `out`; what lies past them is as it was. With no room, out_len
+ * 0, a call says by 8 how many bytes the file has. Refusals 15, 16, 17, 8. */
 KLOV_MUST_USE klov_answer klov_write_ds2_sp(const uint8_t *header, size_t header_len, const uint8_t *packets, size_t packets_len, uint8_t *out, size_t out_len);
 
 /* What follows is no part of the archive. */

@@ -19,8 +19,8 @@
 enum status { COMPLETE = 0, INCOMPLETE = 1, REFUSED = 3, FAILED = 4, WRONG_USE = 64 };
 
 /* PART: how much is read at a time where the recording is read whole. SOME_ROOM: packets to begin with. TRIES, NAME_ROOM: for a temporary
- * name. */
-enum { DEFAULT_PIECE = 4096, PART = 1 << 20, SOME_ROOM = 64, TRIES = 100, NAME_ROOM = 64 };
+ * name. CARRIED: the place of the byte that an unswapped read leaves to be carried. */
+enum { DEFAULT_PIECE = 4096, PART = 1 << 20, SOME_ROOM = 64, TRIES = 100, NAME_ROOM = 64, CARRIED = 40 };
 
 static const char help[] =
     "usage: intake [--force] [--] RECORDING PACKETS [PIECE]\n"
@@ -36,8 +36,11 @@ static const char help[] =
     "  refused 5 504 56 54: a record of 56 bytes at place 504 of the payload stream: 54 bytes are missing\n"
     "Complete as announced: all that the recording's blocks announce is there. A block that was lost or zeroed announces nothing, and\n"
     "nobody can tell. Owed are frames that are announced and had not come when the recording ended. Short are packets and frames of\n"
-    "which bytes are missing, in a packet with zeros in their place; their numbers follow, counted from 0. Of a refused recording no\n"
-    "packets are written.\n"
+    "which bytes are missing, in a packet with zeros in their place; their numbers follow, counted from 0. To a swapped packet one byte\n"
+    "is carried, from the last unswapped read before it: a packet for which that byte is missing is short, be all its own bytes there.\n"
+    "A recording that begins swapped (DS2: by block 0's flag; DSS: by the first announcing block's) has one or more packets whose\n"
+    "carried byte is ours, a zero that nobody recorded: the tally counts them short, and no host calls it complete. Of a refused\n"
+    "recording no packets are written.\n"
     "\n"
     "The other exit statuses, with a line on standard error:\n"
     "  4   input or output failed; but for a line that could not be printed, PACKETS is as it was\n"
@@ -70,8 +73,8 @@ struct input {
     size_t taken;
 };
 
-/* The sizes of the reads, in order, gathered from the recording's bytes: a count of 40 alone does not say whether a packet is
- * short. */
+/* The sizes of the reads, in order, gathered from the recording's bytes, and whether the byte that is carried from read to read came from the
+ * file: a count of 40 alone does not say whether a packet is short. */
 struct sizes {
     bool dss;
     uint64_t start;
@@ -82,6 +85,7 @@ struct sizes {
     size_t run;
     unsigned left; /* DSS: packets left of the run */
     bool swapped;  /* the next read */
+    bool sourced;  /* the byte that is carried now came from the file */
 };
 
 struct intake {
@@ -96,6 +100,8 @@ struct intake {
     uint64_t short_count;
     struct bytes shorts;
     uint64_t bytes;
+    uint64_t lacking; /* packets whose reads are not complete */
+    uint64_t leading; /* packets before the first that has 42 bytes of the file */
     bool complete;
     uint64_t cut;
     uint64_t owed;
@@ -280,6 +286,17 @@ static unsigned next_size(struct sizes *s)
     return size;
 }
 
+/* Whether the next packet is whole, by the size of its read and its count. It is asked of every packet in order, since in DSS too the carried
+ * byte goes on from block to block. */
+static bool next_is_whole(struct sizes *s, unsigned size, uint8_t count)
+{
+    bool swapped = size < KLOV_PACKET;
+    bool whole = count == size && (s->sourced || !swapped);
+    if (!swapped)
+        s->sourced = count > CARRIED;
+    return whole;
+}
+
 /* The packets file, which has another name until it is whole. */
 
 /* Whether a file begins as recordings do: of a pipe it cannot be told whether it brings this one. Fails if it cannot be read. */
@@ -354,7 +371,7 @@ static void open_output(struct intake *it)
         fail_at(it->packets);
 }
 
-/* Throws away what was written and counted. */
+/* Throws away what was written and counted, with what was known of the reads. */
 static void start_anew(struct intake *it)
 {
     if (fflush(it->out) != 0 || fseeko(it->out, 0, SEEK_SET) != 0 || ftruncate(fileno(it->out), 0) != 0)
@@ -365,6 +382,8 @@ static void start_anew(struct intake *it)
     it->bytes = 0;
     it->short_count = 0;
     it->shorts.len = 0;
+    it->lacking = 0;
+    it->leading = 0;
 }
 
 /* Removes the empty file that has taken the name of PACKETS, if it is still the one there and still empty. */
@@ -436,12 +455,12 @@ static void note_short(struct intake *it)
         append(&it->shorts, &(struct range){it->handed, it->handed}, sizeof(struct range));
 }
 
-/* Writes a packet, frame or record, and counts it: `size` bytes, of which so many are the file's, and it should have `whole`. */
-static void put(struct intake *it, const uint8_t *bytes, size_t size, uint64_t of_file, uint64_t whole)
+/* Writes a packet, frame or record, and counts it: `size` bytes, of which so many are the file's. */
+static void put(struct intake *it, const uint8_t *bytes, size_t size, uint64_t of_file, bool whole)
 {
     if (fwrite(bytes, 1, size, it->out) != size)
         fail_at(it->packets);
-    if (of_file < whole)
+    if (!whole)
         note_short(it);
     it->bytes += of_file;
     it->handed++;
@@ -449,8 +468,14 @@ static void put(struct intake *it, const uint8_t *bytes, size_t size, uint64_t o
 
 static void put_packets(struct intake *it, const uint8_t *out, const uint8_t *counts, uint64_t packets)
 {
-    for (uint64_t i = 0; i < packets; i++)
-        put(it, out + KLOV_PACKET * i, KLOV_PACKET, counts[i], next_size(&it->sizes));
+    for (uint64_t i = 0; i < packets; i++) {
+        unsigned size = next_size(&it->sizes);
+        if (counts[i] < size)
+            it->lacking++;
+        if (it->leading == it->handed && counts[i] < KLOV_PACKET)
+            it->leading++;
+        put(it, out + KLOV_PACKET * i, KLOV_PACKET, counts[i], next_is_whole(&it->sizes, size, counts[i]));
+    }
 }
 
 static enum outcome refused(struct intake *it, klov_answer a)
@@ -534,15 +559,23 @@ static enum outcome take_piece(struct intake *it, struct pieces *p)
     return GOES_ON;
 }
 
-/* The strict end says whether the recording is complete, or what is missing; then the lenient end is asked until nothing is owed. */
+/* The strict end has answered: every read is complete, and the recording is complete if it does not begin swapped. Short are then the packets
+ * before the first unswapped one, which have counts of 40. */
+static enum outcome end_strictly(struct intake *it)
+{
+    hold("short ones", it->short_count, it->leading);
+    it->complete = it->leading == 0;
+    if (!it->complete)
+        tally_again(it);
+    return READ;
+}
+
+/* The strict end says whether all that is announced is there, or what is missing; then the lenient end is asked until nothing is owed. */
 static enum outcome end_pieces(struct intake *it, struct pieces *p)
 {
     klov_answer a = klov_strict_end(&p->reader);
-    it->complete = a.refusal == KLOV_ANSWERED;
-    if (it->complete) {
-        hold("short ones", it->short_count, 0);
-        return READ;
-    }
+    if (a.refusal == KLOV_ANSWERED)
+        return end_strictly(it);
     if (a.refusal != KLOV_REFUSED_CUT_BLOCK && a.refusal != KLOV_REFUSED_OWING)
         return refused(it, a);
     it->cut = a.refusal == KLOV_REFUSED_CUT_BLOCK ? a.beside : 0;
@@ -626,7 +659,7 @@ static void put_frames(struct intake *it, const struct bytes *file, const uint32
         klov_answer frame = klov_frame(segment[0], segment[1], k);
         if (frame.second == 0)
             break;
-        put(it, look(file, frame.first, frame.second, scratch), (size_t)frame.second, frame.second, KLOV_FRAME);
+        put(it, look(file, frame.first, frame.second, scratch), (size_t)frame.second, frame.second, frame.second == KLOV_FRAME);
     }
 }
 
@@ -649,7 +682,7 @@ static void put_record(struct intake *it, const struct bytes *file, uint32_t pla
 {
     uint8_t scratch[KLOV_FRAME] = {0};
     uint64_t size = KLOV_RECORD(look(file, place, 2, scratch)[1]);
-    put(it, look(file, place, size, scratch), (size_t)size, size, size);
+    put(it, look(file, place, size, scratch), (size_t)size, size, true);
 }
 
 static enum outcome whole_qp7(struct intake *it, const struct bytes *file, const klov_tallied *t)
@@ -694,8 +727,8 @@ static enum outcome read_whole(struct intake *it)
     hold_to_tally(it, &t);
     it->complete = klov_complete_as_announced(&t, file->len);
     it->cut = file->len - (t.start + KLOV_BLOCK * t.blocks);
-    /* SP packets that are owed are handed out all the same, and are short */
-    it->owed = t.kind == KLOV_DS2_SP ? t.short_count : t.announced - t.handed;
+    /* SP packets that are owed are handed out all the same; one that is short by its carried byte alone is not owed */
+    it->owed = t.kind == KLOV_DS2_SP ? it->lacking : t.announced - t.handed;
     return outcome;
 }
 

@@ -115,20 +115,21 @@ def reads(run):
 
 
 def sp_packets(rec):
-    packets, short, carry = [], [], 0
+    """The packets, and which of them are short: of whose reads, or of the byte that is carried to a swapped one, some are not in the stream."""
+    packets, short, carry = [], [], b""
     for run in runs(rec):
         for place, size in reads(run):
             stored = rec.stream[place:place + size]
-            if len(stored) < size:
+            if len(stored) < size or (size == 40 and not carry):
                 short.append(len(packets))
             c = stored + bytes(size - len(stored))
             if size == 42:
                 packets.append(c[:40] + b"\0" + c[41:])
-                carry = c[40]
+                carry = stored[40:41]
                 continue
             packet = bytearray(42)
             packet[0:40:2] = c[1::2]
-            packet[1] = carry
+            packet[1:2] = carry or b"\0"
             packet[3:42:2] = c[0::2]
             packets.append(bytes(packet))
     return packets, short
@@ -331,7 +332,7 @@ def dss_named(m):
     recorder = m.continuous(6, dss=True)
     held = [m.block(40), m.block(3), m.block(2, flag=0x8F), m.block(0)]
     yield "dss complete, 2", m.file(b"\x02dss", 1024, m.block(12), m.block(6, byte1=100), m.block(0))
-    yield "dss complete, 3", m.file(b"\x03dss", 1536, m.block(12, flag=0x8F), m.block(1, byte1=2))
+    yield "dss complete, 3", m.file(b"\x03dss", 1536, m.block(12), m.block(1, byte1=2))
     yield "dss as a recorder makes it", m.file(b"\x02dss", 1024, *recorder, m.block(0))
     yield "dss owed", m.file(b"\x03dss", 1536, *recorder)
     yield "dss cut block", m.file(b"\x02dss", 1024, *recorder, tail=recorder[2][:200])
@@ -413,6 +414,45 @@ def other_named(m):
     yield "text", b"a text of more than four bytes"
 
 
+def carried_named(m):
+    """Recordings in which a byte is carried to a swapped packet, or none is."""
+    def ds2(*blocks, tail=b"", magic=b"\x01ds2"):
+        return m.file(magic, 1536, *[m.block(count, flag=flag) for flag, count in blocks], tail=tail)
+
+    def dss(*blocks, tail=b""):
+        return m.file(b"\x02dss", 1024, *[m.block(count, byte1, flag) for flag, byte1, count in blocks], tail=tail)
+
+    silent = [(0x0F, 0)] * 30
+    yield "carried, ds2 swapped block", ds2((0x8F, 12))
+    yield "carried, ds2 begins swapped, else complete", ds2((0x8F, 13), (0x0F, 12), (0x0F, 12), magic=b"\x03ds2")
+    yield "carried, ds2 begins swapped, one packet", ds2((0x8F, 1))
+    yield "carried, ds2 begins swapped, owed", ds2((0x8F, 13))
+    yield "carried, ds2 begins swapped, cut block", ds2((0x8F, 12), tail=b"\x0f" * 300)
+    yield "carried, ds2 begins swapped, cut block, owed", ds2((0x8F, 26), tail=b"\x0f" * 300)
+    yield "carried, ds2 swapped by a silent block", ds2((0x8F, 0), (0x0F, 24))
+    yield "carried, ds2 swapped and without packets", ds2((0x8F, 0), (0x8F, 0))
+    yield "carried, ds2 not swapped by a later block", ds2((0x0F, 1), (0x8F, 23))
+    yield "carried, dss after a cut read", dss((0x0F, 3, 255), (0x8F, 3, 1))
+    yield "carried, dss swapped first and last", dss((0x8F, 3, 1), (0x0F, 3, 1), (0x8F, 3, 1))
+    yield "carried, dss blocks of one swapped packet", dss((0x8F, 3, 1), (0x8F, 90, 1), (0x8F, 3, 1), (0x8F, 3, 12), (0x8F, 3, 1))
+    yield "carried, dss blocks of one swapped packet alone", dss((0x8F, 3, 1), (0x8F, 3, 0), (0x8F, 3, 1), (0x0F, 3, 0))
+    yield "carried, dss begins swapped, cut block", dss((0x8F, 3, 1), (0x8F, 3, 1), tail=b"\x8f\3\1")
+    yield "carried, dss begins swapped, owed", dss((0x8F, 3, 1), (0x8F, 3, 13))
+    yield "carried, dss not swapped by a silent block", dss((0x8F, 3, 0), (0x0F, 3, 12))
+    yield "carried, dss from block to block", dss((0x0F, 3, 1), (0x8F, 3, 1), (0x8F, 200, 1), (0x8F, 3, 0), (0x8F, 3, 12), (0x8F, 3, 1))
+    yield "carried, dss 40 of an unswapped read before", dss((0x0F, 38, 23), (0x8F, 3, 1))
+    yield "carried, dss a swapped read is cut before", dss((0x0F, 18, 24), (0x8F, 3, 1))
+    yield "carried, dss after a cut read, and again", dss((0x0F, 3, 25), (0x8F, 3, 3))
+    yield "carried, dss after a cut read, earlier and later", dss((0x0F, 3, 63), (0x8F, 3, 1), (0x8F, 250, 1), (0x8F, 100, 1), (0x0F, 3, 2))
+    yield "carried, refused by 7, begins swapped", ds2((0x8F, 12), *silent)
+    yield "carried, refused by 7, begins swapped, owed", ds2((0x8F, 13), (0x0F, 12), *silent, *[(0x0F, 255)] * 5)
+    yield "carried, refused by 7, swapped by a silent block, owed", ds2((0x8F, 0), *silent[:25], (0x0F, 255), (0x0F, 255), tail=b"cut")
+    yield "carried, refused by 7, not swapped", ds2((0x0F, 13), (0x8F, 12), *silent)
+    for flag in (0x8F, 0x0E):  # no good header, so that the audio starts at 4096
+        for count in (12, 13):
+            yield f"carried, magic 7, flag {flag >> 7}, {count} packets", m.file(b"\x07ds2", 4096, m.block(count, flag=flag))
+
+
 def random_recording(m):
     r = m.rng
     magic, start = r.choice(((b"\x02dss", 1024), (b"\x03dss", 1536), (b"\x01ds2", 1536), (b"\x03ds2", 1536), (b"\x07ds2", 2048)))
@@ -475,6 +515,7 @@ def recordings():
     for n in range(80):
         yield f"random {n}", random_recording(m)
     yield from cut_named(m)
+    yield from carried_named(m)
 
 
 # The runs.
@@ -561,6 +602,23 @@ LINES = {
     "qp7 refused 4": "refused 4 506 0 2: a record should begin at place 506 of the payload stream: 2 of its first 2 bytes are missing\n",
     "qp7 refused 5": "refused 5 504 56 54: a record of 56 bytes at place 504 of the payload stream: 54 bytes are missing\n",
     "qp7, blocks 2, 2 of 12 bytes": "refused 5 1010 12 10: a record of 12 bytes at place 1010 of the payload stream: 10 bytes are missing\n",
+    "carried, ds2 swapped block": "incomplete: 12 packets, 0 bytes of a cut block, 0 frames owed, 1 short: 0\n",
+    "carried, ds2 begins swapped, owed": "incomplete: 13 packets, 0 bytes of a cut block, 1 frames owed, 2 short: 0 12\n",
+    "carried, ds2 swapped and without packets": "complete as announced: 0 packets\n",
+    "carried, ds2 not swapped by a later block": "complete as announced: 24 packets\n",
+    "carried, dss after a cut read": "incomplete: 256 packets, 0 bytes of a cut block, 256 frames owed, 232 short: 24-255\n",
+    "carried, dss swapped first and last": "incomplete: 3 packets, 0 bytes of a cut block, 0 frames owed, 1 short: 0\n",
+    "carried, dss blocks of one swapped packet": "incomplete: 16 packets, 0 bytes of a cut block, 0 frames owed, 4 short: 0-3\n",
+    "carried, dss not swapped by a silent block": "complete as announced: 12 packets\n",
+    "carried, dss from block to block": "complete as announced: 16 packets\n",
+    "carried, dss 40 of an unswapped read before": "incomplete: 24 packets, 0 bytes of a cut block, 24 frames owed, 2 short: 22-23\n",
+    "carried, dss a swapped read is cut before": "incomplete: 25 packets, 0 bytes of a cut block, 25 frames owed, 1 short: 23\n",
+    "carried, dss after a cut read, and again": "incomplete: 28 packets, 0 bytes of a cut block, 28 frames owed, 2 short: 24-25\n",
+    "carried, refused by 7, begins swapped": "incomplete: 12 packets, 0 bytes of a cut block, 0 frames owed, 1 short: 0\n",
+    "carried, refused by 7, not swapped": "complete as announced: 25 packets\n",
+    "carried, magic 7, flag 1, 12 packets": "incomplete: 12 packets, 0 bytes of a cut block, 0 frames owed, 1 short: 0\n",
+    "carried, magic 7, flag 1, 13 packets": "incomplete: 13 packets, 0 bytes of a cut block, 1 frames owed, 2 short: 0 12\n",
+    "carried, magic 7, flag 0, 13 packets": "incomplete: 13 packets, 0 bytes of a cut block, 1 frames owed, 1 short: 12\n",
 }
 
 

@@ -6,7 +6,7 @@ mod common;
 use common::command::{check_version, failed, misused, of_system, open, reserve, shown, status, Outcome, Program, Stop};
 use common::new_file::{NewFile, Source};
 use klovdrun::demux::{ds2, AudioFormat};
-use klovdrun::{dss_start, frames, tally, Packets, ReadSizes, Reader, Refusal, Tally, DS2_START, FRAME, LIMIT, PACKET};
+use klovdrun::{dss_start, frames, tally, Packets, ReadSizes, Reader, Refusal, Tally, Wholeness, DS2_START, FRAME, LIMIT, PACKET};
 use std::ffi::{OsStr, OsString};
 use std::fmt;
 use std::fs::File;
@@ -34,8 +34,11 @@ Of a QP7 record that cannot be read, refusals 4 and 5, two more numbers stand be
   refused 5 504 56 54: a record of 56 bytes at place 504 of the payload stream: 54 bytes are missing
 Complete as announced: all that the recording's blocks announce is there. A block that was lost or zeroed announces nothing, and
 nobody can tell. Owed are frames that are announced and had not come when the recording ended. Short are packets and frames of
-which bytes are missing, in a packet with zeros in their place; their numbers follow, counted from 0. Of a refused recording no
-packets are written.
+which bytes are missing, in a packet with zeros in their place; their numbers follow, counted from 0. To a swapped packet one byte
+is carried, from the last unswapped read before it: a packet for which that byte is missing is short, be all its own bytes there.
+A recording that begins swapped (DS2: by block 0's flag; DSS: by the first announcing block's) has one or more packets whose
+carried byte is ours, a zero that nobody recorded: the tally counts them short, and no host calls it complete. Of a refused
+recording no packets are written.
 
 The other exit statuses, with a line on standard error:
   4   input or output failed; but for a line that could not be printed, PACKETS is as it was
@@ -128,21 +131,39 @@ struct Counted {
     short: usize,
     ranges: Vec<(usize, usize)>,
     bytes: usize,
+    /// Packets whose reads are not complete.
+    lacking: usize,
+    /// Packets before the first that has 42 bytes of the file.
+    leading: usize,
+    wholeness: Wholeness,
 }
 
 impl Counted {
-    /// One more, with so many bytes of the file, where a whole one has `whole`.
-    fn add(&mut self, of_file: usize, whole: usize) {
+    /// One more, with so many bytes of the file.
+    fn add(&mut self, of_file: usize, whole: bool) {
         let number = self.handed;
         self.handed += 1;
         self.bytes += of_file;
-        if of_file < whole {
+        if !whole {
             self.short += 1;
             match self.ranges.last_mut() {
                 Some((_, last)) if *last + 1 == number => *last = number,
                 _ => self.ranges.push((number, number)),
             }
         }
+    }
+
+    /// One more packet, by the size of its read and its count.
+    fn add_packet(&mut self, size: usize, count: u8) {
+        let of_file = usize::from(count);
+        if of_file < size {
+            self.lacking += 1;
+        }
+        if self.leading == self.handed && of_file < PACKET {
+            self.leading += 1;
+        }
+        let whole = self.wholeness.next_is_whole(size, count);
+        self.add(of_file, whole);
     }
 
     /// Holds what was counted to the archive's tally of the whole file.
@@ -172,21 +193,24 @@ impl<'a> Output<'a> {
         Ok(Output { file, counted: Counted::default() })
     }
 
-    fn put(&mut self, bytes: &[u8], of_file: usize, whole: usize) -> Outcome<()> {
+    /// A frame or a record, all of whose bytes are the file's.
+    fn put(&mut self, bytes: &[u8], whole: bool) -> Outcome<()> {
         self.file.put(bytes)?;
-        self.counted.add(of_file, whole);
+        self.counted.add(bytes.len(), whole);
         Ok(())
     }
 
     fn put_packets<'p>(&mut self, packets: impl Iterator<Item = (&'p [u8], u8)>, sizes: &mut ReadSizes) -> Outcome<()> {
         for (bytes, count) in packets {
             let more = || Stop::Failed("more packets were handed out than are announced".into());
-            self.put(bytes, count.into(), sizes.next().ok_or_else(more)?)?;
+            let size = sizes.next().ok_or_else(more)?;
+            self.file.put(bytes)?;
+            self.counted.add_packet(size, count);
         }
         Ok(())
     }
 
-    /// Throws away what was written and counted.
+    /// Throws away what was written and counted, with what was known of the carried byte.
     fn start_anew(&mut self) -> Outcome<()> {
         self.counted = Counted::default();
         self.file.start_anew()
@@ -272,22 +296,18 @@ impl Pieces {
         output.put_packets(self.room.iter().take(packets), &mut self.sizes)
     }
 
-    /// The strict end says whether the recording is complete, or what is missing.
+    /// The strict end says whether all that is announced is there, or what is missing; then the lenient end is asked until nothing is owed.
     fn end(mut self, input: &mut Input, output: &mut Output) -> Outcome<Ended> {
-        let (complete, cut) = match self.reader.strict_end() {
-            Ok(()) => (true, 0),
-            Err(Refusal { number: Refusal::CUT_BLOCK, beside, .. }) => (false, beside as usize),
-            Err(Refusal { number: Refusal::OWING, .. }) => (false, 0),
+        let cut = match self.reader.strict_end() {
+            Ok(()) => return end_strictly(input, output),
+            Err(Refusal { number: Refusal::CUT_BLOCK, beside, .. }) => beside as usize,
+            Err(Refusal { number: Refusal::OWING, .. }) => 0,
             Err(refusal) => return Err(refusal.into()),
         };
         let owed = self.reader.owed();
-        if complete {
-            hold("short ones", output.counted.short, 0)?;
-        } else {
-            self.drain(output)?;
-            tally_again(input, output)?;
-        }
-        Ok(Ended { unit: "packets", complete, cut, owed })
+        self.drain(output)?;
+        tally_again(input, output)?;
+        Ok(Ended { unit: "packets", complete: false, cut, owed })
     }
 
     fn drain(&mut self, output: &mut Output) -> Outcome<()> {
@@ -309,6 +329,18 @@ fn turns_out_sp(input: &mut Input) -> bool {
         input.keeps_all = input.origin.is_none();
     }
     sp
+}
+
+/// The strict end has answered: every read is complete, and the recording is complete if it does not begin swapped. Short are then the packets
+/// before the first unswapped one, which have counts of 40.
+fn end_strictly(input: &mut Input, output: &Output) -> Outcome<Ended> {
+    let Counted { short, leading, .. } = output.counted;
+    hold("short ones", short, leading)?;
+    let complete = leading == 0;
+    if !complete {
+        tally_again(input, output)?;
+    }
+    Ok(Ended { unit: "packets", complete, cut: 0, owed: 0 })
 }
 
 /// An incomplete recording that was read in pieces is tallied whole too, if its bytes are held or can be gone back for.
@@ -353,8 +385,8 @@ fn whole(input: &mut Input, output: &mut Output) -> Outcome<Ended> {
         _ => return failed(&input.name, "it should have been read in pieces"),
     };
     output.counted.hold_to(&told, unit)?;
-    // SP packets that are owed are handed out all the same, and are short
-    let owed = if told.kind == AudioFormat::Ds2Sp { told.short } else { told.announced - told.handed };
+    // SP packets that are owed are handed out all the same; one that is short by its carried byte alone is not owed
+    let owed = if told.kind == AudioFormat::Ds2Sp { output.counted.lacking } else { told.announced - told.handed };
     Ok(Ended { unit, complete: told.complete_as_announced(file.len()), cut: told.cut(file.len()), owed })
 }
 
@@ -376,7 +408,7 @@ fn whole_qp(file: &[u8], output: &mut Output) -> Outcome<&'static str> {
     let mut scratch = [0; FRAME];
     for (place, size) in ds2::demux_ds2_qp(file)?.rows.iter().flat_map(|&row| frames::frames(row)) {
         let frame = frames::fetch(file, place, size, &mut scratch).map_err(refused_frame)?;
-        output.put(frame, size, FRAME)?;
+        output.put(frame, size == FRAME)?;
     }
     Ok("frames")
 }
@@ -385,7 +417,7 @@ fn whole_qp7(file: &[u8], output: &mut Output) -> Outcome<&'static str> {
     let mut scratch = [0; FRAME];
     for place in ds2::demux_ds2_qp7(file)?.records {
         let record = frames::record(file, place, &mut scratch).map_err(refused_frame)?;
-        output.put(record, record.len(), record.len())?;
+        output.put(record, true)?;
     }
     Ok("records")
 }

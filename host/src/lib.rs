@@ -4,8 +4,8 @@
 //! The calls of [`demux`] have the names and signatures of those in dss-codec's module of that name, so that a host can change the one
 //! for the other. What is added stands beside it: [`Packets`] with the count of file bytes of each packet,
 //! [`ds2_sp_packet`](demux::ds2::ds2_sp_packet) for any one of them at once, [`Reader`] for pieces without an allocation,
-//! [`places`] and [`frames`] for bytes that stay in the file, [`tally`](tally()) for a file in numbers, [`ReadSizes`], which
-//! tells short packets, and [`mux`], which makes a DS2 SP file of packets.
+//! [`places`] and [`frames`] for bytes that stay in the file, [`tally`](tally()) for a file in numbers, [`ReadSizes`] and [`Wholeness`],
+//! which tell whole packets from short ones, and [`mux`], which makes a DS2 SP file of packets.
 //! Every call answers, or refuses by an [`error::Refusal`]; a refused call changes nothing.
 //!
 //! # Complete as announced
@@ -37,7 +37,7 @@ pub use error::{Refusal, Result};
 pub use packets::Packets;
 pub use places::{FilePlace, StreamPlace};
 pub use reader::Reader;
-pub use sizes::ReadSizes;
+pub use sizes::{ReadSizes, Wholeness};
 pub use tally::{tally, Tally};
 
 /// The version of the archive that this crate is for. The first call asks the archive for its own, and panics if that is another: nothing

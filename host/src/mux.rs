@@ -3,8 +3,8 @@
 //!
 //! A file has the header that it is given, [`DS2_START`](crate::DS2_START) bytes that begin `\x01ds2` or `\x03ds2`, and blocks of the packets,
 //! which are joined, [`PACKET`](crate::PACKET) bytes each, byte 40 of each 0, as every reading of SP hands them out. Reading it gives the same
-//! packets, each with its full count, and it is complete as announced: zeros that stand for bytes that were missing are then bytes of the file
-//! like others.
+//! packets, each with its full count and whole, since it begins unswapped, and it is complete as announced: zeros that stand for bytes that were
+//! missing, carried ones too, are then bytes of the file like others.
 use crate::error::{Refusal, Result};
 use crate::raw;
 

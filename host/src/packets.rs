@@ -3,8 +3,11 @@
 use crate::error::{Refusal, Result};
 use crate::PACKET;
 
-/// Packets, joined, and for each how many bytes of its read came from the file. A read has 42 bytes, or 40 if it is swapped; below
-/// that the packet is short, and the rest of it are zeros that nobody recorded. [`ReadSizes`](crate::ReadSizes) tells which is which.
+/// Packets, joined, and for each how many bytes of its read came from the file. A read has 42 bytes, or 40 if it is swapped; byte 1 of a
+/// swapped packet is not of its read but carried to it, byte 40 of the last unswapped read before it. A packet is whole if all bytes of its
+/// read came from the file and, where it is swapped, its carried byte too; before any unswapped read that one is ours. Else it is short, and
+/// what is missing in it are zeros that nobody recorded. Counts alone do not tell: [`ReadSizes`](crate::ReadSizes) and
+/// [`Wholeness`](crate::Wholeness) do.
 #[must_use]
 #[derive(Clone, Debug, Default, PartialEq, Eq)]
 pub struct Packets {

@@ -8,7 +8,7 @@ use std::mem::{align_of, size_of, MaybeUninit};
 use std::sync::atomic::{AtomicBool, Ordering};
 
 /// The version of the archive that these declarations are for.
-pub(crate) const VERSION: u64 = 3;
+pub(crate) const VERSION: u64 = 4;
 const READER_SIZE: usize = 12928;
 
 /// `klov_answer`.

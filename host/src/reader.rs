@@ -51,8 +51,10 @@ impl Reader {
         self.keep(step)
     }
 
-    /// Ends the reader of a recording that ends with a whole block and owes nothing, or refuses by 6, 3, 13 or 14, and is as it was. What its
-    /// answer says of the recording is the rule for "complete as announced":
+    /// Ends the reader of a recording that ends with a whole block and owes nothing, or refuses by 6, 3, 13 or 14, and is as it was. Once it
+    /// has answered, before any lenient end, every packet that was handed out is whole but the swapped ones before the first unswapped read, and
+    /// all counts are full: the short ones are the leading counts of 40. What its answer says of the recording is the rule for "complete as
+    /// announced":
     ///
     #[doc = include_str!("complete.md")]
     pub fn strict_end(&mut self) -> Result<()> {
@@ -61,7 +63,8 @@ impl Reader {
     }
 
     /// Drops a block that is not whole, and hands out packets that are owed, as many as there is room for, zeros where the file has
-    /// no bytes. It is asked again while [`owed`](Reader::owed) is above 0. Refusal 3.
+    /// no bytes. In DSS one of them can have its full count and be short, by a carried byte that is such a zero. It is asked again while
+    /// [`owed`](Reader::owed) is above 0. Refusal 3.
     pub fn lenient_end(&mut self, out: &mut [u8], counts: &mut [u8]) -> Result<usize> {
         let step = raw::lenient_end(&mut self.state, out, counts);
         self.keep(step)

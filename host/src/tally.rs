@@ -18,7 +18,8 @@ pub struct Tally {
     pub announced: usize,
     /// Packets, frames or records that the whole reading hands out.
     pub handed: usize,
-    /// How many of them are short.
+    /// How many of them are short: packets as [`Packets`](crate::Packets) has it, also where the carried byte alone is ours, and QP frames
+    /// under [`FRAME`](crate::FRAME) bytes. No QP7 record is.
     pub short: usize,
     /// How many bytes of the file they have.
     pub bytes: usize,

@@ -1,12 +1,12 @@
-// A packet of a DS2 SP file at once, by its number: its bytes and its count against the whole reading and against the model, refusals by their
-// numbers and in their order, and lent memory that stays as it was. It rests on recordings made from dice, on the model, and on packets written
-// out by hand.
+// A packet of a DS2 SP file at once, by its number: its bytes and its count against the whole reading and against the model, whether it is short
+// against the tally, refusals by their numbers and in their order, and lent memory that stays as it was. It rests on recordings made from dice, on
+// the model, and on packets written out by hand.
 mod common;
 
 use common::files::{self, header, Dice};
 use common::model::{self, refused, Kind, Refused};
 use klovdrun::demux::ds2::{demux_ds2_sp_counted, ds2_sp_packet, ds2_sp_packet_into};
-use klovdrun::{Packets, Refusal, LIMIT, PACKET};
+use klovdrun::{tally, Packets, Refusal, LIMIT, PACKET};
 use std::collections::{BTreeMap, BTreeSet};
 
 const FILES: u64 = 400;
@@ -70,6 +70,17 @@ fn past(total: usize) -> [usize; 7] {
     [total, total + 1, (1 << 32) + total / 2, usize::MAX / 41 + 1, usize::MAX / 2, 1 << 63, usize::MAX]
 }
 
+/// How many packets are short, by the first flag and each one's number and count: a carried byte stands before the read of its packet, so that
+/// in DS2 a full count tells, but for packet 0, to which none is carried.
+fn short_by_numbers(file: &[u8], packets: &[One]) -> usize {
+    let first_swapped = file.get(model::ds2_start(file)).map_or(false, |flags| flags >> 7 == 1);
+    let is_short = |number: usize, count: u8| {
+        let swapped = first_swapped != (number % 2 == 1);
+        count < if swapped { 40 } else { 42 } || (swapped && number == 0)
+    };
+    packets.iter().enumerate().filter(|&(number, &(_, count))| is_short(number, count)).count()
+}
+
 /// Holds every number of a file, and some past its last, to the model and to the whole reading; answers the packets.
 fn hold(file: &[u8]) -> model::Answer<Vec<One>> {
     let all = by_model(file);
@@ -77,6 +88,7 @@ fn hold(file: &[u8]) -> model::Answer<Vec<One>> {
     match &all {
         Ok(packets) => {
             packets.iter().enumerate().for_each(|(number, &one)| hold_packet(file, number, one));
+            assert_eq!(told(tally(file)).map(|told| told.short), Ok(short_by_numbers(file, packets)));
             let total = packets.len();
             past(total).into_iter().for_each(|number| hold_refused(file, number, refused(18, total as u64)));
         }
@@ -184,7 +196,7 @@ fn by_place(file: &[u8], start: usize, number: usize) -> One {
     let place = |number: usize| if first_swapped { 41 * number - number % 2 } else { 41 * number + number % 2 };
     let byte = |place: usize| file.get(start + 512 * (place / 506) + 6 + place % 506).copied();
     let swapped = first_swapped != (number % 2 == 1);
-    let carried = if swapped && number > 0 { byte(place(number - 1) + 40).unwrap_or(0) } else { 0 };
+    let carried = if swapped && number > 0 { byte(place(number - 1) + 40) } else { None };
     let found: Vec<u8> = (place(number)..place(number + 1)).map_while(byte).collect();
     let (packet, _) = model::packet(&found, swapped, carried);
     (packet.bytes, packet.count as u8)

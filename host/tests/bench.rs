@@ -1,5 +1,5 @@
-// The worked examples of docs/FORMAT.md, and the listing's file, through the safe calls. It rests on their numbers
-// alone, written out by hand.
+// The worked examples of docs/FORMAT.md, the listing's file, and recordings in which a carried byte is ours, through the safe calls. It rests on
+// their numbers alone, written out by hand.
 mod common;
 
 use common::files::file;
@@ -88,6 +88,22 @@ fn where_a_dss_block_starts() {
         let expected = if start == 506 { (0, 0) } else { (start as u8 + 1, 40) };
         assert_eq!((packets.bytes[3], packets.counts[0]), expected);
     }
+}
+
+#[test]
+fn packets_whose_carried_byte_is_ours_are_short() {
+    let tallied = |file: &[u8]| tally(file).map(|told| (told.announced, told.handed, told.short, told.bytes));
+    let head = |flags, count| [flags, 3, count, 0xFF, 0, 0xFF];
+    // the first packet is swapped, and there was no read before it
+    let ds2 = file(b"\x01ds2", 1536, &[head(0x8F, 12)], |_| 7);
+    assert_eq!(tallied(&ds2), Ok((12, 12, 1, 492)));
+    let dss = file(b"\x02dss", 1024, &[head(0x8F, 1), head(0x0F, 1), head(0x8F, 1)], |_| 7);
+    assert_eq!(tallied(&dss), Ok((3, 3, 1, 122)));
+    // the last of the first block's packets lies past the stream's end; the second block's has all 40 bytes of its read
+    let cut = file(b"\x02dss", 1024, &[head(0x0F, 255), head(0x8F, 1)], |_| 7);
+    assert_eq!(tallied(&cut), Ok((256, 256, 232, 1052)));
+    let packets = dss::demux_dss_counted(&cut).unwrap();
+    assert_eq!((packets.counts[255], &packets.bytes[42 * 255..][..4]), (40, &[7, 0, 7, 7][..]));
 }
 
 #[test]

@@ -3,8 +3,8 @@
 mod common;
 
 use common::files::{self, header, Dice};
-use klovdrun::demux::{detect_format, ds2, AudioFormat};
-use klovdrun::{tally, FilePlace, Packets, Reader, Refusal, Tally, DS2_START, PACKET};
+use klovdrun::demux::{detect_format, ds2, dss, AudioFormat};
+use klovdrun::{tally, FilePlace, Packets, ReadSizes, Reader, Refusal, Tally, DS2_START, PACKET};
 use std::collections::BTreeMap;
 
 const FILES: u64 = 2000;
@@ -13,6 +13,8 @@ const FILES: u64 = 2000;
 #[derive(Debug, Clone, Copy, PartialEq, Eq, PartialOrd, Ord)]
 enum Told {
     Complete,
+    /// The strict end answered, and so many packets come before the first unswapped one.
+    BeginsSwapped(usize),
     Cut(u64),
     Owing(u64),
     InsideHeader(u64),
@@ -51,15 +53,25 @@ fn is_sp(kept: &[u8]) -> bool {
     tally(kept).map_or(false, |told| told.kind == AudioFormat::Ds2Sp)
 }
 
+/// What a strict end that answered says, by the first packet's count; every count is then full.
+fn ended(counts: &[u8]) -> Told {
+    assert!(counts.iter().all(|count| [40, 42].contains(count)));
+    match counts.first() {
+        None | Some(42) => Told::Complete,
+        _ => Told::BeginsSwapped(counts.iter().take_while(|&&count| count == 40).count()),
+    }
+}
+
 fn in_pieces(kind: u64, pieces: &[&[u8]]) -> Told {
     let mut fed = Fed::open(kind);
-    let (mut kept, mut type_known) = (Vec::new(), kind != 0);
+    let (mut kept, mut type_known, mut counts) = (Vec::new(), kind != 0, Vec::new());
     for piece in pieces {
         let packets = match fed.give(piece) {
             Err(Refusal { number: Refusal::HOLD, .. }) => return Told::Hold,
             answer => answer.unwrap(),
         };
         kept.extend_from_slice(piece);
+        counts.extend_from_slice(&fed.lent.counts[..packets]);
         if !type_known && packets + fed.reader.owed() > 0 {
             if !is_sp(&kept) {
                 return Told::NotSp;
@@ -68,7 +80,7 @@ fn in_pieces(kind: u64, pieces: &[&[u8]]) -> Told {
         }
     }
     match fed.reader.strict_end() {
-        Ok(()) => Told::Complete,
+        Ok(()) => ended(&counts),
         Err(Refusal { number: Refusal::CUT_BLOCK, beside, size: 0, absent: 0 }) => Told::Cut(beside),
         Err(Refusal { number: Refusal::OWING, beside, size: 0, absent: 0 }) => Told::Owing(beside),
         Err(Refusal { number: Refusal::HEADER, beside, size: 0, absent: 0 }) => Told::InsideHeader(beside),
@@ -100,6 +112,17 @@ fn is_of_a_record(refusal: Refusal) -> bool {
     }
 }
 
+/// How many packets of an SP recording have reads that are not complete; of any other file none.
+fn lacking(file: &[u8], whole: Result<Tally, Refusal>) -> usize {
+    let (packets, mut sizes) = match whole {
+        Ok(Tally { kind: AudioFormat::DssSp, start, .. }) => (dss::demux_dss_counted(file), ReadSizes::dss(start)),
+        Ok(Tally { kind: AudioFormat::Ds2Sp, start, .. }) => (ds2::demux_ds2_sp_counted(file), ReadSizes::ds2(start)),
+        _ => return 0,
+    };
+    sizes.take_piece(file);
+    packets.unwrap().counts.iter().zip(sizes).filter(|&(&count, size)| usize::from(count) < size).count()
+}
+
 /// Holds what the rule says of a recording in pieces to its tally.
 fn hold(file: &[u8], kind: u64, told: Told, whole: Result<Tally, Refusal>) {
     let complete = whole.map_or(false, |whole| whole.complete_as_announced(file.len()));
@@ -112,22 +135,29 @@ fn hold(file: &[u8], kind: u64, told: Told, whole: Result<Tally, Refusal>) {
             Err(refusal) => assert!(is_of_a_record(refusal), "{refusal:?}"),
         },
         Told::InsideHeader(start) => assert_eq!(whole, Err(Refusal { number: Refusal::HEADER, beside: start, size: 0, absent: 0 })),
-        Told::Complete | Told::Cut(_) | Told::Owing(_) => {
-            let whole = whole.unwrap();
+        Told::Complete | Told::BeginsSwapped(_) | Told::Cut(_) | Told::Owing(_) => {
+            let (lacking, whole) = (lacking(file, whole), whole.unwrap());
             assert!(is_sp(whole.kind) && (whole.kind == AudioFormat::DssSp) == (kind != 0));
             assert_eq!(told == Told::Complete, complete);
             assert_eq!(whole.cut(file.len()), if let Told::Cut(bytes) = told { bytes as usize } else { 0 });
-            assert_eq!(matches!(told, Told::Owing(_)), whole.short > 0 && whole.cut(file.len()) == 0);
+            assert_eq!(matches!(told, Told::Owing(_)), lacking > 0 && whole.cut(file.len()) == 0);
+            // what is short of a recording that lacks nothing are the packets before the first unswapped one
+            if let Told::BeginsSwapped(leading) = told {
+                assert_eq!((whole.short, whole.handed, lacking), (leading, whole.announced, 0));
+            }
+            assert!(whole.short >= lacking);
         }
     }
 }
 
 /// An outcome's name for the count of them.
-fn named(told: Told, kind: u64, whole: Result<Tally, Refusal>) -> String {
+fn named(told: Told, kind: u64, whole: Result<Tally, Refusal>, lacking: usize) -> String {
     let what = match (told, whole) {
         (Told::Complete, Ok(whole)) if whole.announced == 0 => "complete, and empty",
         (Told::Complete, _) => "complete",
-        (Told::Cut(_), Ok(whole)) if whole.short > 0 => "cut, and owing",
+        (Told::BeginsSwapped(_), _) => "begins swapped",
+        (Told::Cut(_), _) if lacking > 0 => "cut, and owing",
+        (Told::Cut(_), Ok(whole)) if whole.short > 0 => "cut, and begins swapped",
         (Told::Cut(_), _) => "cut",
         (Told::Owing(_), _) => "owing",
         (Told::InsideHeader(_), _) => "inside the header",
@@ -153,19 +183,57 @@ fn in_pieces_as_whole() {
         for pieces in cuts {
             let told = in_pieces(kind, &pieces);
             hold(&file, kind, told, whole);
-            *seen.entry(named(told, kind, whole)).or_insert(0) += 1;
+            *seen.entry(named(told, kind, whole, lacking(&file, whole))).or_insert(0) += 1;
         }
     }
     println!("{seen:?}");
     for kind in ["DSS", "DS2"] {
-        for what in ["complete", "complete, and empty", "cut", "cut, and owing", "owing", "inside the header"] {
+        let ended = ["complete", "complete, and empty", "begins swapped", "owing", "inside the header"];
+        for what in ended.into_iter().chain(["cut", "cut, and owing", "cut, and begins swapped"]) {
             assert!(seen.contains_key(&format!("{kind}: {what}")), "{kind}: {what}");
         }
     }
     for what in ["not SP", "not SP, refused", "refused by 7"] {
         assert!(seen.contains_key(&format!("DS2: {what}")), "{what}");
     }
-    assert_eq!(seen.len(), 15);
+    assert_eq!(seen.len(), 19);
+}
+
+#[test]
+fn recordings_that_begin_swapped() {
+    let payload: fn(usize) -> u8 = |place| place as u8;
+    let [swapped, unswapped] = [0x8F, 0x0F].map(|flags| move |count| header(flags, 3, count, 0));
+    // blocks, and how many packets come before the first unswapped one
+    let ds2: [(&[[u8; 6]], usize); 5] = [
+        (&[swapped(12)], 1),
+        (&[swapped(1), unswapped(1)], 1),
+        // the first block says it though it is silent
+        (&[swapped(0), unswapped(24)], 1),
+        // and in a recording without packets nothing is swapped
+        (&[swapped(0), swapped(0)], 0),
+        (&[unswapped(0), swapped(24)], 0),
+    ];
+    let dss: [(&[[u8; 6]], usize); 5] = [
+        (&[swapped(1), unswapped(1), swapped(1)], 1),
+        (&[swapped(0), swapped(1), swapped(1), swapped(2), swapped(1)], 3),
+        (&[swapped(1), unswapped(0), swapped(1)], 2),
+        // a silent block has no say
+        (&[swapped(0), unswapped(12), swapped(12)], 0),
+        (&[swapped(0), swapped(0)], 0),
+    ];
+    for (kind, magic, start, cases) in [(0, b"\x01ds2", 1536, ds2), (2, b"\x02dss", 1024, dss)] {
+        for (heads, leading) in cases {
+            let file = files::file(magic, start, heads, payload);
+            let expected = if leading > 0 { Told::BeginsSwapped(leading) } else { Told::Complete };
+            for size in [1, 512, file.len()] {
+                let told = in_pieces(kind, &file.chunks(size).collect::<Vec<_>>());
+                assert_eq!(told, expected, "{heads:?}");
+                hold(&file, kind, told, tally(&file));
+            }
+            assert!(strict_end_answers(kind, &file));
+            assert_eq!((tally(&file).map(|told| told.short), is_complete(&file)), (Ok(leading), leading == 0), "{heads:?}");
+        }
+    }
 }
 
 #[test]

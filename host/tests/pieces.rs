@@ -1,11 +1,11 @@
-// A recording in pieces against the same recording whole: packets, counts, frames owed, and the sizes of the reads.
+// A recording in pieces against the same recording whole: packets, counts, frames owed, and which packets are short.
 // It rests on recordings made from dice, on the tally of every prefix, and on the model for when a reader's hold overflows.
 mod common;
 
 use common::files::{self, Dice};
 use common::model;
 use klovdrun::demux::{ds2, dss};
-use klovdrun::{tally, FilePlace, Packets, ReadSizes, Reader, Refusal, PACKET};
+use klovdrun::{tally, FilePlace, Packets, ReadSizes, Reader, Refusal, Wholeness, PACKET};
 
 const FILES: u64 = 1200;
 
@@ -162,9 +162,28 @@ fn ds2_pieces_give_what_the_whole_gives() {
     assert!(seen.iter().all(|&number| number > 40), "{seen:?}");
 }
 
+/// Of each packet, by its count and the size of its read, whether it is whole.
+fn told_whole(packets: &[(u8, usize)]) -> Vec<bool> {
+    let mut wholeness = Wholeness::new();
+    packets.iter().map(|&(count, size)| wholeness.next_is_whole(size, count)).collect()
+}
+
+/// Of the packets that are short though their reads are complete, how many come before any unswapped read, and how many after one that was cut.
+fn by_carried_byte(packets: &[(u8, usize)], whole: &[bool]) -> [usize; 2] {
+    let first_unswapped = packets.iter().position(|&(_, size)| size == 42).unwrap_or(packets.len());
+    let mut found = [0; 2];
+    for (number, (&(count, size), &whole)) in packets.iter().zip(whole).enumerate() {
+        if usize::from(count) == size && !whole {
+            found[usize::from(number > first_unswapped)] += 1;
+        }
+    }
+    found
+}
+
 #[test]
-fn read_sizes_tell_as_many_short_packets_as_the_tally() {
-    let mut shorts = [0; 2];
+fn sizes_and_wholeness_tell_as_many_short_packets_as_the_tally() {
+    // of DSS and of DS2
+    let (mut shorts, mut carried) = ([0; 2], [[0; 2]; 2]);
     for seed in 0..2 * FILES {
         let mut dice = Dice::new(2_000_000 + seed);
         let recording = Recording::new(seed % 2 == 0, &mut dice);
@@ -178,13 +197,42 @@ fn read_sizes_tell_as_many_short_packets_as_the_tally() {
         let counts = recording.whole().unwrap().counts;
         let sizes: Vec<usize> = sizes.collect();
         assert_eq!(sizes.len(), counts.len());
-        let short = counts.iter().zip(&sizes).filter(|&(&count, &size)| usize::from(count) < size).count();
-        assert!(counts.iter().zip(&sizes).all(|(&count, &size)| usize::from(count) <= size));
+        let packets: Vec<(u8, usize)> = counts.into_iter().zip(sizes).collect();
+        assert!(packets.iter().all(|&(count, size)| usize::from(count) <= size));
+        let whole = told_whole(&packets);
+        let short = whole.iter().filter(|&&whole| !whole).count();
         assert_eq!(short, tally(&recording.file).unwrap().short, "seed {seed}");
-        // A packet whose read has 42 bytes of which 40 are there is the one that its count alone does not tell.
-        shorts[usize::from(counts.iter().zip(&sizes).any(|(&count, &size)| count == 40 && size == 42))] += short;
+        // A packet whose read has 42 bytes of which 40 are there is one that its count alone does not tell.
+        shorts[usize::from(packets.contains(&(40, 42)))] += short;
+        for (sum, found) in carried[usize::from(!recording.dss)].iter_mut().zip(by_carried_byte(&packets, &whole)) {
+            *sum += found;
+        }
     }
     assert!(shorts.iter().all(|&number| number > 100), "{shorts:?}");
+    let [dss, ds2] = carried;
+    assert!(dss.iter().all(|&number| number > 100) && ds2[0] > 100, "{carried:?}");
+    // in DS2 a cut read is followed by none that is complete
+    assert_eq!(ds2[1], 0);
+}
+
+#[test]
+fn wholeness_by_hand() {
+    // counts and sizes, and the packets that are short
+    let cases: [(&[(u8, usize)], &[usize]); 7] = [
+        (&[(42, 42), (40, 40), (42, 42)], &[]),
+        (&[(40, 40), (42, 42), (40, 40)], &[0]),
+        (&[(40, 40), (40, 40), (40, 40)], &[0, 1, 2]),
+        // a swapped read that is cut leaves the carried byte as it is
+        (&[(42, 42), (38, 40), (40, 40)], &[1]),
+        // of 40 bytes the one at place 40 is not
+        (&[(42, 42), (40, 42), (40, 40), (40, 40), (42, 42), (40, 40)], &[1, 2, 3]),
+        (&[(0, 42), (0, 40), (40, 40)], &[0, 1, 2]),
+        (&[(0, 40), (42, 42), (0, 40)], &[0, 2]),
+    ];
+    for (packets, short) in cases {
+        let told: Vec<usize> = told_whole(packets).iter().enumerate().filter(|(_, &whole)| !whole).map(|(number, _)| number).collect();
+        assert_eq!(told, short, "{packets:?}");
+    }
 }
 
 #[test]

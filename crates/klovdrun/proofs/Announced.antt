@@ -1,5 +1,5 @@
--- One rule for "complete as announced": of a file that is read as a reader's kind, the strict end answers exactly if the tally's numbers say so;
--- and of a QP file that they say it of no frame is missing or short.
+-- One rule for "complete as announced": of a file that is read as a reader's kind, the strict end answers and it does not begin swapped exactly if
+-- the tally's numbers say so; of an SP file that they say it of every packet is whole, and of a QP file no frame is missing or short.
 -- Assumes nothing.
 use Prim.Native.Nat.{ℕ, _+_, _*_, _≤_, _<_}
 use mathlib.Core.Path.{_≡_, refl, sym, ap, _∙_, subst}
@@ -21,7 +21,9 @@ use Rattle.detect.specs.Kinds.{formatType, kindOf}
 use Rattle.whole.specs.declared.Recording.{Recording}
 use Rattle.whole.specs.Admissions.{admission}
 use Rattle.whole.proofs.Admissions.{dss-recording, ds2-recording}
-use Rattle.sp.specs.Readings.{Reading, total}
+use Rattle.sp.specs.declared.Run.{Run}
+use Rattle.sp.specs.ReadLists.{dssRuns, ds2Runs}
+use Rattle.sp.specs.Readings.{Reading, total, readingOf}
 use Rattle.sp.specs.Whole.{wholeAt}
 use Rattle.sp.proofs.Sourced.{whole-says}
 use Rattle.sp.proofs.ReadLists.{packets-announced}
@@ -35,8 +37,8 @@ use Rattle.tally.specs.declared.FileKind.the-variants.{DssSp, Ds2Sp, Ds2Qp}
 use Rattle.tally.specs.declared.Figures.{Figures}
 use Rattle.tally.specs.HandedOut.{packetsOut}
 use Rattle.tally.specs.Tallies.{tallied}
-use Rattle.tally.specs.Agreement.{kindFor, wholeOut, talliedOut}
-use Rattle.tally.proofs.Theorems.{tally-is-the-reading, what-is-tallied, all-packets, frames-and-missing}
+use Rattle.tally.specs.Agreement.{kindFor, wholeOut, talliedOut, ShortAre}
+use Rattle.tally.proofs.Theorems.{tally-is-the-reading, what-is-tallied, all-packets, short-packets, frames-and-missing}
 use Rattle.reader.specs.declared.Reader.{Reader}
 use Rattle.reader.specs.State.{isDss, startOf, blocksIn, readingBy, opened as fresh, Reached}
 use Rattle.reader.specs.History.{StrictCall, joined}
@@ -53,7 +55,7 @@ use Rattle.numbers.specs.Numbers.{tallyNumbers}
 use Rattle.klovdrun.specs.declared.Opened.{Opened}
 use Rattle.klovdrun.specs.Wrapped.{stepTo, OpenCarries, Advances}
 use Rattle.klovdrun.specs.Hosted.{Given}
-use Rattle.klovdrun.specs.Announced.{AsAnnounced}
+use Rattle.klovdrun.specs.Announced.{AsAnnounced, AllWhole}
 use Rattle.klovdrun.proofs.Theorems.{klov-tally-tells, open-tells, strict-end-tells}
 use Rattle.klovdrun.proofs.Counted.{opened-none}
 use Rattle.klovdrun.proofs.Complete.{given-fed, told-complete}
@@ -164,6 +166,15 @@ module _ (kind : ℕ) (f : List ℕ) (small : length f ≤ limit) (agrees : Agre
             (omega (arith, packets-announced (isDss kind) f (startOf kind) (blocksIn kind f))))),
       )
 
+-- if none is short all are whole
+none-short-whole : (f : List ℕ) {runs : List ℕ → ℕ → ℕ → List Run} {short : ℕ} → short ≡ 0 → ShortAre f runs short → AllWhole f runs
+none-short-whole f {runs} none s =
+    let r = readingOf f (s .rec) runs in (
+      s .rec,
+      s .taken,
+      (λ k h. not-false (wholeAt r k) (none-counted (total r) (λ k. not (wholeAt r k)) (sym (s .short-is) ∙ none) k h)),
+    )
+
 -- A host that has opened a reader and given it a recording that is read as its kind, and the same host or another that has the whole recording: a
 -- first strict end answers with refusal 0, and the first count that came out is 42, or none did, exactly if the numbers of `klov_tally` say that
 -- it is complete as announced.
@@ -194,6 +205,18 @@ one-rule kind carries begun {pieces = pieces} given {stored} {r} c agrees is =
           (λ none. omega (arith, none)) in
           let complete = told-complete kind carries begun given c ended in
           (ended, all-whole complete .1 (λ k h. so .1 k (omega (arith, complete .none-owed))))),
+    )
+
+-- Of an SP file that is complete as announced every packet is whole; so none begins swapped that has one.
+pub packets-complete : (f : List ℕ) {told : Tallied} → told ≡ tallyNumbers (tallied f) → AsAnnounced told (length f)
+    → (kindFor f ≡ DssSp → AllWhole f dssRuns) × (kindFor f ≡ Ds2Sp → AllWhole f ds2Runs)
+packets-complete f is rule =
+    let t = klov-tally-tells f is .zero (rule .answered) in
+    let figures = t .0 in
+    let kind = what-is-tallied f figures (t .1) .0 in
+    let numbers = subst (λ (numbers : Tallied). AsAnnounced numbers (length f)) (is ∙ ap tallyNumbers (t .1)) rule in (
+      (λ dss. none-short-whole f (numbers .none-short) (short-packets f figures (t .1) .0 (kind ∙ dss))),
+      (λ ds2. none-short-whole f (numbers .none-short) (short-packets f figures (t .1) .1 (kind ∙ ds2))),
     )
 
 -- Of a QP file that is complete as announced no frame is missing, and none is short.

@@ -40,10 +40,10 @@ carried-there : (r : Reading) (k : ℕ) → walkAt r k .swap ≡ true → getD (
 unfolding packetByte
 carried-there r k swapped = table-at 42 (byteOf (r .stream) (walkAt r k)) 1 (omega arith) ∙ rw swapped
 
--- And that byte is byte 1 of the packet.
+-- That byte lies in the stream, and is byte 1 of the packet.
 pub carried-byte : (r : Reading) (j k : ℕ) → k < total r → walkAt r k .swap ≡ true → CarriedFrom r j k
-    → getD (packetAt r k) 1 0 ≡ r .stream (walkAt r j .place + 40)
-carried-byte r j k h swapped from = carried-there r k swapped ∙ carried-is r j k h from
+    → (walkAt r j .place + 40 < r .long) × (getD (packetAt r k) 1 0 ≡ r .stream (walkAt r j .place + 40))
+carried-byte r j k h swapped from = (from .from-file, carried-there r k swapped ∙ carried-is r j k h from)
 
 -- Of a packet that is short though its read is complete, byte 1 is ours, and 0: it is swapped, and nothing that is in the file is carried to it.
 pub our-byte : (f : List ℕ) (rec : Recording) (runs : List ℕ → ℕ → ℕ → List Run) (k : ℕ) → k < total (readingOf f rec runs)

@@ -115,6 +115,40 @@ static void examples(void)
     EXAMPLE(TALLY, 2048, 0, 0, 1, 1536, 1, 13, 13, 1, 506);
 }
 
+/* Recordings in which a carried byte is ours, by byte 0 and count of each block. Their tallies say how many packets are short by that. */
+static void carried_bytes(void)
+{
+    static const struct {
+        const char *magic;
+        uint8_t blocks[4][2];
+        uint64_t announced, shorts, bytes;
+        bool complete;
+    } files[] = {
+        {"\1ds2", {{0x8F, 12}}, 12, 1, 492, false},
+        {"\2dss", {{0x0F, 255}, {0x8F, 1}}, 256, 232, 1052, false},
+        {"\2dss", {{0x8F, 1}, {0x0F, 1}, {0x8F, 1}}, 3, 1, 122, false},
+        {"\1ds2", {{0x8F, 0}, {0x0F, 12}}, 12, 1, 492, false},
+        {"\1ds2", {{0x8F, 0}, {0x8F, 0}}, 0, 0, 0, true},
+        {"\2dss", {{0x8F, 1}, {0x8F, 1}, {0x8F, 2}}, 4, 3, 162, false},
+        {"\2dss", {{0x8F, 0}, {0x0F, 1}, {0x8F, 1}}, 2, 0, 82, true},
+        {"\2dss", {{0x0F, 25}, {0x8F, 3}}, 28, 2, 1134, false},
+    };
+    for (size_t i = 0; i < sizeof files / sizeof *files; i++) {
+        size_t start = files[i].magic[0] == 2 ? 1024 : DS2_START, blocks = 0;
+        about("carried byte that is ours", i);
+        start_file(files[i].magic);
+        for (; blocks < 4 && files[i].blocks[blocks][0] != 0; blocks++)
+            put_block(start + BLOCK * blocks, files[i].blocks[blocks][0], 3, files[i].blocks[blocks][1], 0);
+        size_t len = start + BLOCK * blocks;
+        uint64_t n = files[i].announced;
+        EXAMPLE(TALLY, len, 0, 0, files[i].magic[3] != 's', start, blocks, n, n, files[i].shorts, files[i].bytes);
+        uint64_t complete = ruled[1];
+        rule_both_ways((struct file){bytes, len});
+        check_number("complete as announced", complete + files[i].complete, ruled[1]);
+        run("carried byte that is ours", i, len);
+    }
+}
+
 /* Example 7: where a DSS block's reads start is seen by how many bytes its one packet has. */
 static void dss_starts(void)
 {
@@ -124,8 +158,8 @@ static void dss_starts(void)
         about("example of the description, 7,", i);
         start_file("\2dss");
         put_block(1024, starts[i][0], starts[i][1], 1, 0);
-        uint64_t size = starts[i][0] == 0x8F ? 40 : 42;
-        EXAMPLE(TALLY, 1536, 0, 0, 0, 1024, 1, 1, 1, starts[i][2] < size, starts[i][2]);
+        /* a swapped one is short whatever bytes it has, since none is carried to it */
+        EXAMPLE(TALLY, 1536, 0, 0, 0, 1024, 1, 1, 1, starts[i][0] == 0x8F || starts[i][2] < 42, starts[i][2]);
     }
 }
 
@@ -185,6 +219,7 @@ void edges(void)
 {
     examples();
     sentences();
+    carried_bytes();
     dss_starts();
     swapped_packet();
     few_bytes();

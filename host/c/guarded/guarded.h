@@ -116,10 +116,10 @@ struct answer model_write(struct file header, struct file packets, uint64_t room
 /* ---- readings.c: packets, segments, records, the tally, a reader ---- */
 
 /* A walk over the reads of an SP recording. In DSS `block` is the next block to look at, and `left` what its predecessor
- * announces still. */
+ * announces still. `sourced`: the carried byte came from the file; `whole`: the packet that was walked over last is whole. */
 struct walk {
     uint64_t block, left, place, taken;
-    bool swapped;
+    bool swapped, sourced, whole;
     uint8_t carry;
 };
 
@@ -181,7 +181,8 @@ void largest(void);
 extern struct area file_area, piece_area, header_area;
 extern struct lists lists;
 extern uint8_t *want_out, *want_counts;
-/* How many files were incomplete and complete as announced, in pieces and whole. */
-extern uint64_t ruled[2];
+/* How many files were incomplete and complete as announced, in pieces and whole; and of how many, of DSS and of DS2, the strict end answered
+ * though they begin swapped. */
+extern uint64_t ruled[2], begun_swapped[2];
 
 #endif

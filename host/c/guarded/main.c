@@ -70,7 +70,9 @@ int main(int argc, char **argv)
     check_number("the version", KLOV_VERSION, klov_version());
     check_number("where DS2 starts", KLOV_DS2_START, klov_detect_ds2_audio_start(want_out, 0));
     check_number("whether the rule was met and not met", 1, ruled[0] > 0 && ruled[1] > 0);
-    printf("guarded: %" PRIu64 " files complete as announced and %" PRIu64 " not, in pieces and whole; %" PRIu64 " calls, %" PRIu64 " checks, %" PRIu64 " wrong\n",
-           ruled[1], ruled[0], calls, checks, wrong);
+    check_number("whether a strict end answered for what begins swapped", 1, begun_swapped[0] > 0 && begun_swapped[1] > 0);
+    printf("guarded: %" PRIu64 " files complete as announced and %" PRIu64 " not, %" PRIu64 " of these by a swapped beginning alone, in pieces and whole; "
+           "%" PRIu64 " calls, %" PRIu64 " checks, %" PRIu64 " wrong\n",
+           ruled[1], ruled[0], begun_swapped[0] + begun_swapped[1], calls, checks, wrong);
     return wrong == 0 ? 0 : 1;
 }

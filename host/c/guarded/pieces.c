@@ -4,7 +4,7 @@
 
 #include <string.h>
 
-uint64_t ruled[2];
+uint64_t ruled[2], begun_swapped[2];
 
 /* Puts a reader into an area of its own, byte by byte. */
 static klov_reader *place_reader(int which, const klov_reader *from)
@@ -159,7 +159,17 @@ void reader_calls(struct file f, uint64_t kind)
     end_reader(&m, r);
 }
 
-/* The rule for "complete as announced" is one: of a file that a reader takes, the strict end answers exactly if the tally's numbers have it. */
+/* How many packets come before the first with a count of 42. */
+static uint64_t leading(const uint8_t *counts, uint64_t packets)
+{
+    uint64_t n = 0;
+    while (n < packets && counts[n] < PACKET)
+        n++;
+    return n;
+}
+
+/* The rule for "complete as announced" is one: of a file that a reader takes, the strict end answers and the first packet's count is 42, if
+ * there is one, exactly if the tally's numbers have it. Where the end answers, the tally counts short the packets before the first of 42. */
 void rule_both_ways(struct file f)
 {
     uint64_t kind = klov_reader_kind(f.at, f.len);
@@ -172,9 +182,13 @@ void rule_both_ways(struct file f)
     if (a.refusal == KLOV_REFUSED_HOLD)
         return;
     check_number("a piece with KLOV_ROOM", 0, a.refusal);
-    bool complete = klov_strict_end(&r).refusal == KLOV_ANSWERED;
+    bool answers = klov_strict_end(&r).refusal == KLOV_ANSWERED;
+    bool complete = answers && (a.first == 0 || want_counts[0] == PACKET);
     check_number("whether it is complete, in pieces and whole", (uint64_t)klov_complete_as_announced(&t, f.len), complete);
+    if (answers)
+        check_number("short ones, in pieces and whole", t.short_count, leading(want_counts, a.first));
     ruled[complete]++;
+    begun_swapped[kind == KLOV_READ_DS2] += answers && !complete;
 }
 
 /* The reader right after an answer that stands at an edge is the fresh one. */

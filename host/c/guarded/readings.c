@@ -59,6 +59,9 @@ void walk_packets(struct walk *w, struct file f, const struct shape *s, uint64_t
         packet(c, w->swapped, &w->carry, out + PACKET * n);
         uint64_t there = w->place < end ? end - w->place : 0;
         counts[n] = (uint8_t)(there < size ? there : size);
+        w->whole = there >= size && (!w->swapped || w->sourced);
+        if (!w->swapped)
+            w->sourced = there > 40;
         w->place += size;
         w->swapped = !w->swapped;
         w->left -= s->dss;
@@ -198,7 +201,7 @@ struct answer model_records(struct file f, const struct shape *s, struct lists *
     return answered(l->n, l->segment_count);
 }
 
-/* SP: all announced packets are handed out, and the stream's bytes are counted packet by packet. */
+/* SP: all announced packets are handed out; which are short, and the stream's bytes, are counted packet by packet. */
 static void tally_sp(struct file f, const struct shape *s, struct lists *l)
 {
     struct walk w = {0};
@@ -208,7 +211,7 @@ static void tally_sp(struct file f, const struct shape *s, struct lists *l)
         uint8_t out[PACKET], count;
         walk_packets(&w, f, s, 1, out, &count);
         l->bytes += count;
-        l->shorts += count < read_size(!w.swapped);
+        l->shorts += !w.whole;
     }
 }
 

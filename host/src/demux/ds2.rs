@@ -127,8 +127,9 @@ pub fn demux_ds2_sp_into(data: &[u8], out: &mut [u8], counts: &mut [u8]) -> Resu
 }
 
 /// Any packet of a DS2 SP file at once, by its number, from 0: its bytes, and how many bytes of its read came from the file, as
-/// [`demux_ds2_sp_counted`] has them under that number. No packet before it is walked over, and nothing is allocated; but each call sums the
-/// count bytes of all whole blocks, so that many packets in a row are read sooner all together. Refusals 1, 2, 3, 11, 18.
+/// [`demux_ds2_sp_counted`] has them under that number. In DS2 a packet of a full count is whole, since its carried byte stands two places before
+/// its read; but not packet 0 if it is swapped, to which none was carried. No packet before it is walked over, and nothing is allocated; but each
+/// call sums the count bytes of all whole blocks, so that many packets in a row are read sooner all together. Refusals 1, 2, 3, 11, 18.
 pub fn ds2_sp_packet(data: &[u8], number: usize) -> Result<([u8; PACKET], u8)> {
     let (mut packet, mut count) = ([0; PACKET], [0]);
     ds2_sp_packet_into(data, number, &mut packet, &mut count)?;

@@ -28,6 +28,8 @@ pub struct Packet {
     /// How many bytes of the read came from the stream, and how many it takes.
     pub count: usize,
     pub size: usize,
+    /// Whether all of them did, and the byte too that is carried to a swapped one.
+    pub whole: bool,
 }
 
 #[derive(Debug, Clone, PartialEq, Eq)]
@@ -174,31 +176,31 @@ fn reads(file: &[u8], kind: Kind, start: usize) -> Vec<Vec<(usize, bool)>> {
     all
 }
 
-/// One packet from the bytes that its read found, and the carried byte afterwards.
-pub fn packet(found: &[u8], swapped: bool, carry: u8) -> (Packet, u8) {
+/// One packet from the bytes that its read found, and the carried byte afterwards: None where no read has found one.
+pub fn packet(found: &[u8], swapped: bool, carry: Option<u8>) -> (Packet, Option<u8>) {
     let mut read = [0; 42];
     read[..found.len()].copy_from_slice(found);
     let (count, size) = (found.len(), size(swapped));
     if !swapped {
-        let carried = std::mem::replace(&mut read[40], 0);
-        return (Packet { bytes: read, count, size }, carried);
+        read[40] = 0;
+        return (Packet { bytes: read, count, size, whole: count == size }, found.get(40).copied());
     }
     let mut bytes = [0; 42];
     for (i, byte) in bytes.iter_mut().enumerate() {
         *byte = match i {
-            1 => carry,
+            1 => carry.unwrap_or(0),
             40 => 0,
             _ if i % 2 == 0 => read[i + 1],
             _ => read[i - 3],
         };
     }
-    (Packet { bytes, count, size }, carry)
+    (Packet { bytes, count, size, whole: count == size && carry.is_some() }, carry)
 }
 
 /// All packets of an SP recording.
 pub fn packets(file: &[u8], kind: Kind, start: usize) -> Vec<Packet> {
     let stream = stream(file, start);
-    let mut carry = 0;
+    let mut carry = None;
     let mut all = Vec::new();
     for (place, swapped) in reads(file, kind, start).concat() {
         let (from, to) = (place.min(stream.len()), (place + size(swapped)).min(stream.len()));
@@ -405,15 +407,16 @@ pub fn frame(start: u64, length: u64, k: u64) -> (u64, u64) {
 /// A file in numbers: kind, start, blocks, announced, handed out, short, and the file's bytes that those have.
 pub fn tally(file: &[u8]) -> Answer<[u64; 7]> {
     let (kind, start) = kind(file)?;
-    let sizes: Vec<(usize, usize)> = match kind {
-        Kind::DssSp | Kind::Ds2Sp => packets(file, kind, start).iter().map(|packet| (packet.count, packet.size)).collect(),
-        Kind::Qp => qp_frames(file, start).iter().map(|frame| (frame.len(), 56)).collect(),
-        Kind::Qp7 => qp7_records(file, start)?.iter().map(|record| (record.len(), record.len())).collect(),
+    // of each how many bytes of the file it has, and whether it is whole
+    let handed: Vec<(usize, bool)> = match kind {
+        Kind::DssSp | Kind::Ds2Sp => packets(file, kind, start).iter().map(|packet| (packet.count, packet.whole)).collect(),
+        Kind::Qp => qp_frames(file, start).iter().map(|frame| (frame.len(), frame.len() == 56)).collect(),
+        Kind::Qp7 => qp7_records(file, start)?.iter().map(|record| (record.len(), true)).collect(),
     };
-    let short = sizes.iter().filter(|(count, size)| count < size).count();
-    let bytes = sizes.iter().map(|(count, _)| count).sum();
+    let short = handed.iter().filter(|(_, whole)| !whole).count();
+    let bytes = handed.iter().map(|(count, _)| count).sum();
     let blocks = whole_blocks(file.len(), start);
-    Ok([kind as usize, start, blocks, announced(file, start), sizes.len(), short, bytes].map(|number| number as u64))
+    Ok([kind as usize, start, blocks, announced(file, start), handed.len(), short, bytes].map(|number| number as u64))
 }
 
 /// The DS2 SP file that a header and joined packets make, or why they make none. The limit is not asked for: no list here is so long.
