@@ -81,7 +81,8 @@ pub fn reads_within(swap: bool, m: usize) -> usize
     2 * pairs + 1
 }
 
-fn swap_bit(swap: bool) -> usize
+// 1 for a swapped read.
+pub fn swap_bit(swap: bool) -> usize
     ensures { λ r. ⌜ (r ≡ cond swap 1 0) × (r ≤ 1) ⌝ }
 {
     if swap { 1 } else { 0 }

@@ -11,7 +11,7 @@ use borrow.Author.Tests.{lt-ltb, le-ltb}
 use lib.Dec.{ltb}
 use Rattle.tables.specs.Table.{table, sum}
 use Rattle.tables.specs.Counting.{howMany}
-use Rattle.tables.proofs.Cases.{by-order, by-test, never}
+use Rattle.tables.proofs.Cases.{by-order, by-test, never, either-most}
 use Rattle.tables.proofs.Counting.{same-many, many-parts}
 use Rattle.tables.proofs.Table.{same-table, table-sum-none, table-sum-more}
 use Rattle.packets.specs.Packet.{readSize, fileCount}
@@ -69,12 +69,22 @@ not-ours-sourced false sourced p = refl
 pub not-ours-plain : (swap sourced : Bool) → swap ≡ false → (swap && not sourced) ≡ false
 not-ours-plain swap sourced p = rw p
 
+pub ours-most : (swap sourced : Bool) (complete : ℕ) → oursIn swap sourced complete ≤ complete
+ours-most swap sourced complete =
+    by-order 0 complete (λ some. simp (lt-ltb 0 complete some) (either-most (swap && not sourced) (omega arith) (omega arith)))
+    (λ none. simp (le-ltb 0 complete none) (omega arith))
+
 pub not-ours : (swap sourced : Bool) (complete : ℕ) → (swap && not sourced) ≡ false → 0 ≡ oursIn swap sourced complete
 not-ours swap sourced complete other = by-test (ltb 0 complete) (λ some. simp (some, other)) (λ none. simp none)
 
+-- fewer reads end where less is reached
+pub fewer-reach : (swap : Bool) (m n : ℕ) → reach swap m < reach swap n → m < n
+fewer-reach true m n h = omega arith
+fewer-reach false m n h = omega arith
+
 module _ (s : ℕ → ℕ) (long : ℕ) (runs : List Run) (run : Run) where
   -- the reading with this run, and the number of its first packet
-  abbrev longer : Reading
+  abbrev pub longer : Reading
   longer = by s long (runs ++ (run ∷ []))
 
   abbrev first : ℕ
@@ -122,8 +132,8 @@ module _ (s : ℕ → ℕ) (long : ℕ) (runs : List Run) (run : Run) where
 
   -- and all of them are short but those whose reads end within the stream, of which there are m at the most; and the first of those if it is swapped
   -- and nothing of the file is carried to it
-  module _ (m : ℕ) (within : reach (run .swap) m ≤ long - run .start .0) (past : long - run .start .0 < reach (run .swap) (m + 1))
-      (sourced : Bool) (carried : sourced ≡ sourcedPast s long runs) where
+  module _ (m : ℕ) (upto : m ≤ run .count) (within : reach (run .swap) m ≤ long - run .start .0)
+      (past : m < run .count → long - run .start .0 < reach (run .swap) (m + 1)) (sourced : Bool) (carried : sourced ≡ sourcedPast s long runs) where
     abbrev shortAt : ℕ → Bool
     shortAt k = not (wholeAt longer (first + k))
 
@@ -135,7 +145,7 @@ module _ (s : ℕ → ℕ) (long : ℕ) (runs : List Run) (run : Run) where
     short-after : (k : ℕ) → k < run .count → m ≤ k → wholeAt longer (first + k) ≡ false
     short-after k h l =
         short-if-cut longer (first + k)
-        (λ complete. omega (arith, complete, ends k h, ends-past (run .swap) m k (long - run .start .0) past l))
+        (λ complete. omega (arith, complete, ends k h, ends-past (run .swap) m k (long - run .start .0) (past (omega arith)) l))
 
     whole-later : (k : ℕ) → suc k < run .count → suc k < m → wholeAt longer (first + suc k) ≡ true
     whole-later k h l =
@@ -184,21 +194,17 @@ module _ (s : ℕ → ℕ) (long : ℕ) (runs : List Run) (run : Run) where
     short-from some zero h l = absurd (not-suc-le-zero h)
     short-from some (suc n) h l = short-some some n l
 
-    short-upto : howMany (run .count) shortAt ≡ run .count - min (run .count) m + oursIn (run .swap) sourced (min (run .count) m)
+    short-upto : howMany (run .count) shortAt ≡ run .count - m + oursIn (run .swap) sourced m
     unfolding howMany
     short-upto =
-        by-order 0 (min (run .count) m)
+        by-order 0 m
         (λ some.
-        simp (lt-ltb 0 (min (run .count) m) some) (short-from (omega arith) (run .count) (omega arith) (omega arith)))
-        (λ none.
-        simp (le-ltb 0 (min (run .count) m) none)
-        (by-order 0 (run .count)
-        (λ some. omega (arith, short-all (omega arith) (run .count) (omega arith)))
-        (λ empty. let zero-count : run .count ≡ 0 = omega arith in rw zero-count (omega arith))))
+        let all : min (run .count) m ≡ m = omega arith in
+        simp (lt-ltb 0 m some) (rw all at (short-from some (run .count) (omega arith) (omega arith))))
+        (λ none. simp (le-ltb 0 m none) (omega (arith, short-all (omega arith) (run .count) (omega arith))))
 
     -- so the whole run adds this
-    pub run-adds : (out : HandedOut) → out .many ≡ run .count
-        → out .short ≡ run .count - min (run .count) m + oursIn (run .swap) sourced (min (run .count) m)
+    pub run-adds : (out : HandedOut) → out .many ≡ run .count → out .short ≡ run .count - m + oursIn (run .swap) sourced m
         → out .bytes ≡ min (reach (run .swap) (run .count)) (long - run .start .0)
         → together (packetsOut (by s long runs)) out ≡ packetsOut longer
     run-adds out many short bytes =

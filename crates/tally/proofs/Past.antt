@@ -1,13 +1,13 @@
--- Whether what is carried past a run came from the file, by the last unswapped read in it.
+-- Whether what is carried past a run came from the file, by the last unswapped read in it; and so all that a run adds.
 -- Assumes nothing.
 use Prim.Native.Nat.{ℕ, zero, suc, _+_, _-_, _≤_, _<_}
 use mathlib.Core.Path.{_≡_, refl, sym, ap, _∙_}
 use mathlib.Core.List.{List, [], _∷_, _++_}
 use mathlib.Core.Bool.{Bool, true, false, not, cond}
 use native.Mathlib.Omega.{arith}
-use borrow.Author.Tests.{lt-ltb, le-ltb, not-true, not-false}
+use borrow.Author.Tests.{lt-ltb, le-ltb, eq-eqb, ne-eqb, not-true, not-false}
 use lib.Dec.{ltb}
-use Rattle.tables.proofs.Cases.{by-order, by-test}
+use Rattle.tables.proofs.Cases.{by-order, by-equal, by-test}
 use Rattle.packets.specs.Packet.{readSize}
 use Rattle.packets.specs.Walk.{reach, parity}
 use Rattle.packets.proofs.Walk.{parity-flips, reach-more}
@@ -16,8 +16,8 @@ use Rattle.sp.specs.Runs.{packetsIn}
 use Rattle.sp.specs.Readings.{walkAt}
 use Rattle.sp.specs.Whole.{sourcedAt}
 use Rattle.sp.proofs.Sourced.{sourced-anew, sourced-kept}
-use Rattle.tally.specs.Inner.{by, sourcedPast}
-use Rattle.tally.proofs.Packetwise.{all-packets, sourced-before, begins, flagged}
+use Rattle.tally.specs.Inner.{oursIn, uptoUnswapped, pastCut, pastComplete, addsComplete, addsCut, by, sourcedPast, Adds}
+use Rattle.tally.proofs.Packetwise.{longer, all-packets, sourced-before, begins, flagged, run-adds}
 
 -- two tests of which each holds if the other does
 same-tests : (a b c d : ℕ) → (a < b → c < d) → (c < d → a < b) → ltb a b ≡ ltb c d
@@ -25,24 +25,57 @@ same-tests a b c d there back =
     by-order a b (λ h. lt-ltb a b h ∙ sym (lt-ltb c d (there h)))
     (λ h. le-ltb a b h ∙ sym (le-ltb c d (by-order c d (λ l. absurd (omega (arith, back l))) (λ l. l))))
 
+-- the reads up to the last unswapped one: none of no reads, and of some by the parity of the last
+upto-none : (swap : Bool) → uptoUnswapped swap 0 ≡ 0
+upto-none true = refl
+upto-none false = omega arith
+
+upto-plain : (swap : Bool) (n : ℕ) → parity swap n ≡ false → uptoUnswapped swap (suc n) ≡ suc n
+upto-plain swap n plain = let next : parity swap (suc n) ≡ true = parity-flips swap n ∙ ap not plain in rw next
+
+upto-swapped : (swap : Bool) (n : ℕ) → parity swap n ≡ true → uptoUnswapped swap (suc n) ≡ n
+upto-swapped swap n swapped =
+    let next : parity swap (suc n) ≡ false = parity-flips swap n ∙ ap not swapped in
+    rw next (omega arith)
+
+-- there are some if there is an unswapped one, be it the first or the second, and they do not go further than all
+upto-least : (swap : Bool) (count : ℕ) → count - 1 ≤ uptoUnswapped swap count
+upto-least swap count = by-test (parity swap count) (λ t. rw t (omega arith)) (λ t. rw t (omega arith))
+
+upto-some : (swap : Bool) (count : ℕ) → cond swap 1 0 < count → 0 < uptoUnswapped swap count
+upto-some true count more = omega (arith, upto-least true count)
+upto-some false count more =
+    by-order 1 count (λ two. omega (arith, upto-least false count)) (λ few. let one : count ≡ 1 = omega arith in rw one (omega arith))
+
+upto-few : (swap : Bool) (count : ℕ) → count ≤ cond swap 1 0 → uptoUnswapped swap count ≡ 0
+upto-few true count few =
+    by-order 0 count (λ some. let one : count ≡ 1 = omega arith in rw one) (λ none. let zero-count : count ≡ 0 = omega arith in rw zero-count)
+upto-few false count few = let none : count ≡ 0 = omega arith in rw none (upto-none false)
+
+upto-within : (swap : Bool) (count : ℕ) → reach swap (uptoUnswapped swap count) ≤ reach swap count
+upto-within swap count = by-test (parity swap count) (λ t. rw t (omega arith)) (λ t. rw t (less swap))
+  where
+    less : (swap : Bool) → reach swap (count - 1) ≤ reach swap count
+    less true = omega arith
+    less false = omega arith
+
 module _ (s : ℕ → ℕ) (long : ℕ) (runs : List Run) (run : Run) where
   -- after an unswapped read: its byte 40 is the last but one
   after-unswapped : (k : ℕ) → k < run .count → parity (run .swap) k ≡ false
-      → sourcedAt (by s long (runs ++ (run ∷ []))) (suc (packetsIn runs + k))
-      ≡ ltb (reach (run .swap) (suc k)) (long - run .start .0 + 2)
+      → sourcedAt (longer s long runs run) (suc (packetsIn runs + k)) ≡ ltb (reach (run .swap) (suc k)) (long - run .start .0 + 2)
   after-unswapped k h plain =
-      let r = by s long (runs ++ (run ∷ [])) in
+      let r = longer s long runs run in
       let place = begins s long runs run k h in
       let far : reach (run .swap) (suc k) ≡ reach (run .swap) k + 42 = reach-more (run .swap) k ∙ rw plain in
       sourced-anew r (packetsIn runs + k) (flagged s long runs run k h ∙ plain)
       ∙ same-tests (walkAt r (packetsIn runs + k) .place + 40) long (reach (run .swap) (suc k)) (long - run .start .0 + 2)
       (λ l. omega (arith, place, far)) (λ l. omega (arith, place, far))
 
-  -- without packets, or with a swapped one alone, what was carried into the run
+  -- without packets what was carried into the run
   pub kept-past : run .count ≡ 0 → sourcedPast s long (runs ++ (run ∷ [])) ≡ sourcedPast s long runs
   kept-past none =
       let all : packetsIn (runs ++ (run ∷ [])) ≡ packetsIn runs = omega (arith, all-packets s long runs run) in
-      ap (sourcedAt (by s long (runs ++ (run ∷ [])))) all ∙ sourced-before s long runs run
+      ap (sourcedAt (longer s long runs run)) all ∙ sourced-before s long runs run
 
   -- by how many reads there are up to the last unswapped one
   abbrev PastBy : ℕ → Type 0
@@ -50,54 +83,81 @@ module _ (s : ℕ → ℕ) (long : ℕ) (runs : List Run) (run : Run) where
       (reads ≡ 0 → sourcedPast s long (runs ++ (run ∷ [])) ≡ sourcedPast s long runs)
       × (0 < reads → sourcedPast s long (runs ++ (run ∷ [])) ≡ ltb (reach (run .swap) reads) (long - run .start .0 + 2))
 
-  pub past-run : (reads : ℕ) → reads ≡ cond (parity (run .swap) (run .count)) (run .count) (run .count - 1) → PastBy reads
-  past-run reads is =
-      by-order 0 (run .count)
-      (λ some. with-last (run .count - 1) (omega arith))
-      (λ none.
-      let count : run .count ≡ 0 = omega arith in
-      let no-read : reads ≡ 0 = is ∙ rw count (none-of (parity (run .swap) 0)) in
-      ((λ e. kept-past count), (λ e. absurd (omega arith))))
-    where
-      none-of : (test : Bool) → cond test 0 (0 - 1) ≡ 0
-      none-of true = refl
-      none-of false = refl
+  -- the run's last packet is packet n, and unswapped; or swapped, so that the one before it is not, if there is one
+  last-plain : (n : ℕ) → run .count ≡ suc n → parity (run .swap) n ≡ false → PastBy (suc n)
+  last-plain n count plain =
+      let r = longer s long runs run in
+      let all : packetsIn (runs ++ (run ∷ [])) ≡ suc (packetsIn runs + n) = omega (arith, all-packets s long runs run) in
+      ((λ e. absurd (omega arith)), (λ e. ap (sourcedAt r) all ∙ after-unswapped n (omega arith) plain))
 
-      -- it is swapped, and so the one before it is not, if there is one
-      swapped-last : (n : ℕ) → reads ≡ n → n < run .count → parity (run .swap) n ≡ true
-          → sourcedPast s long (runs ++ (run ∷ [])) ≡ sourcedAt (by s long (runs ++ (run ∷ []))) (packetsIn runs + n) → PastBy reads
-      swapped-last zero reads-are h swapped kept =
+  last-swapped : (n : ℕ) → run .count ≡ suc n → parity (run .swap) n ≡ true → PastBy n
+  last-swapped n count swapped =
+      let r = longer s long runs run in
+      let all : packetsIn (runs ++ (run ∷ [])) ≡ suc (packetsIn runs + n) = omega (arith, all-packets s long runs run) in
+      before n (omega arith) swapped
+      (ap (sourcedAt r) all ∙ sourced-kept r (packetsIn runs + n) (flagged s long runs run n (omega arith) ∙ swapped))
+    where
+      before : (n : ℕ) → n < run .count → parity (run .swap) n ≡ true
+          → sourcedPast s long (runs ++ (run ∷ [])) ≡ sourcedAt (longer s long runs run) (packetsIn runs + n) → PastBy n
+      before zero h swapped kept =
           let number : packetsIn runs + 0 ≡ packetsIn runs = omega arith in (
-            (λ e. kept ∙ ap (sourcedAt (by s long (runs ++ (run ∷ [])))) number ∙ sourced-before s long runs run),
+            (λ e. kept ∙ ap (sourcedAt (longer s long runs run)) number ∙ sourced-before s long runs run),
             (λ e. absurd (omega arith)),
           )
-      swapped-last (suc m) reads-are h swapped kept =
+      before (suc m) h swapped kept =
           let number : packetsIn runs + suc m ≡ suc (packetsIn runs + m) = omega arith in
           let plain : parity (run .swap) m ≡ false = not-true (parity (run .swap) m) (sym (parity-flips (run .swap) m) ∙ swapped) in (
             (λ e. absurd (omega arith)),
-            (λ e.
-                kept ∙ ap (sourcedAt (by s long (runs ++ (run ∷ [])))) number ∙ after-unswapped m (omega arith) plain
-                ∙ ap (λ (k : ℕ). ltb (reach (run .swap) k) (long - run .start .0 + 2)) (sym reads-are)),
+            (λ e. kept ∙ ap (sourcedAt (longer s long runs run)) number ∙ after-unswapped m (omega arith) plain),
           )
 
-      -- the run's last packet is packet n
-      with-last : (n : ℕ) → run .count ≡ suc n → PastBy reads
-      with-last n count =
-          let r = by s long (runs ++ (run ∷ [])) in
-          let all : packetsIn (runs ++ (run ∷ [])) ≡ suc (packetsIn runs + n) = omega (arith, all-packets s long runs run) in
-          let last : sourcedPast s long (runs ++ (run ∷ [])) ≡ sourcedAt r (suc (packetsIn runs + n)) = ap (sourcedAt r) all in
-          by-test (parity (run .swap) (suc n))
-          (λ next-swapped.
-          let plain : parity (run .swap) n ≡ false =
-          not-true (parity (run .swap) n) (sym (parity-flips (run .swap) n) ∙ next-swapped) in
-          let reads-are : reads ≡ suc n = is ∙ rw (count, next-swapped) in (
-            (λ e. absurd (omega arith)),
-            (λ e. last ∙ after-unswapped n (omega arith) plain ∙ ap (λ (m : ℕ). ltb (reach (run .swap) m) (long - run .start .0 + 2)) (sym reads-are)),
-          ))
-          (λ next-plain.
-          let swapped : parity (run .swap) n ≡ true =
-          not-false (parity (run .swap) n) (sym (parity-flips (run .swap) n) ∙ next-plain) in
-          let reads-are : reads ≡ n = is ∙ rw (count, next-plain) (omega arith) in
-          let kept : sourcedPast s long (runs ++ (run ∷ [])) ≡ sourcedAt r (packetsIn runs + n) =
-          last ∙ sourced-kept r (packetsIn runs + n) (flagged s long runs run n (omega arith) ∙ swapped) in
-          swapped-last n reads-are (omega arith) swapped kept)
+  past-by : PastBy (uptoUnswapped (run .swap) (run .count))
+  past-by = of-count (run .count) refl
+    where
+      of-count : (n : ℕ) → run .count ≡ n → PastBy (uptoUnswapped (run .swap) n)
+      of-count zero none = ((λ e. kept-past none), (λ some. absurd (omega (arith, upto-none (run .swap)))))
+      of-count (suc n) count =
+          by-test (parity (run .swap) n)
+          (λ swapped. rw (upto-swapped (run .swap) n swapped) (last-swapped n count swapped))
+          (λ plain. rw (upto-plain (run .swap) n plain) (last-plain n count plain))
+
+  -- with what was carried into it
+  module _ (sourced : Bool) (carried : sourced ≡ sourcedPast s long runs) where
+    past-cut : pastCut (run .swap) (run .count) (long - run .start .0) sourced ≡ sourcedPast s long (runs ++ (run ∷ []))
+    past-cut =
+        let reads = uptoUnswapped (run .swap) (run .count) in
+        by-equal reads 0
+        (λ none. simp (eq-eqb reads 0 none) (carried ∙ sym (past-by .0 none)))
+        (λ some. simp (ne-eqb reads 0 some) (sym (past-by .1 (omega arith))))
+
+    past-complete : reach (run .swap) (run .count) ≤ long - run .start .0
+        → pastComplete (run .swap) (run .count) sourced ≡ sourcedPast s long (runs ++ (run ∷ []))
+    past-complete all =
+        let swap = run .swap in
+        let count = run .count in
+        by-order (cond swap 1 0) count
+        (λ more.
+        simp (lt-ltb (cond swap 1 0) count more)
+        (sym
+        (past-by .1 (upto-some swap count more)
+        ∙ lt-ltb (reach swap (uptoUnswapped swap count)) (long - run .start .0 + 2) (omega (arith, upto-within swap count)))))
+        (λ few. simp (le-ltb (cond swap 1 0) count few) (carried ∙ sym (past-by .0 (upto-few swap count few))))
+
+    -- What a run adds whose reads are all complete.
+    pub complete-adds : reach (run .swap) (run .count) ≤ long - run .start .0
+        → Adds s long runs run (addsComplete (run .swap) (run .count) (reach (run .swap) (run .count)) sourced)
+    complete-adds all =
+        record {
+          out-is = run-adds s long runs run (run .count) (omega arith) all (λ less. absurd (omega arith)) sourced carried _ refl (omega arith) (omega arith);
+          sourced-is = past-complete all;
+        }
+
+    -- What one adds of which so many are complete.
+    pub cut-adds : (m : ℕ) → m < run .count → reach (run .swap) m ≤ long - run .start .0 → long - run .start .0 < reach (run .swap) (m + 1)
+        → long - run .start .0 < reach (run .swap) (run .count)
+        → Adds s long runs run (addsCut (run .swap) (run .count) m (long - run .start .0) sourced)
+    cut-adds m less within past cut =
+        record {
+          out-is = run-adds s long runs run m (omega arith) within (λ h. past) sourced carried _ refl refl (omega arith);
+          sourced-is = past-cut;
+        }

@@ -14,8 +14,9 @@ use Rattle.sp.proofs.Runs.{packets-none}
 use Rattle.sp.proofs.ReadLists.{runs-none, runs-more, runs-same}
 use Rattle.sp.proofs.Sourced.{sourced-none}
 use Rattle.tally.specs.declared.HandedOut.{HandedOut}
+use Rattle.tally.specs.declared.in_packets.Added.{Added}
 use Rattle.tally.specs.HandedOut.{packetsOut}
-use Rattle.tally.specs.Inner.{noneOut, together, by, sourcedPast}
+use Rattle.tally.specs.Inner.{noneOut, together, by, sourcedPast, Adds}
 use Rattle.tally.proofs.Packetwise.{same-out, nothing-out}
 use Rattle.tally.proofs.Past.{kept-past}
 
@@ -45,24 +46,23 @@ module _ (f : List ℕ) (a blocks : ℕ) (s : ℕ → ℕ) (long : ℕ) where
       }
 
   -- one block more, which announces packets or none
-  pub runs-go-on : (b : ℕ) (run : Run) (out new out′ : HandedOut) (sourced sourced′ : Bool) → b < blocks
-      → (run ≡ dssRun f a b) × (run .count ≤ 255) → Runwise b out sourced
-      → together (packetsOut (by s long (dssRuns f a b))) new ≡ packetsOut (by s long (dssRuns f a b ++ (run ∷ [])))
-      → (new .many ≡ run .count) × (new .short ≤ run .count) × (new .bytes ≤ 42 * run .count) → out′ ≡ together out new
-      → sourced′ ≡ sourcedPast s long (dssRuns f a b ++ (run ∷ [])) → Runwise (b + 1) out′ sourced′
-  runs-go-on b run out new out′ sourced sourced′ h is v adds few added past =
+  pub runs-go-on : (b : ℕ) (run : Run) (out out′ : HandedOut) (sourced : Bool) (added : Added) → b < blocks
+      → (run ≡ dssRun f a b) × (run .count ≤ 255) → Runwise b out sourced → Adds s long (dssRuns f a b) run added
+      → (added .out .many ≡ run .count) × (added .out .short ≤ run .count) × (added .out .bytes ≤ 42 * run .count)
+      → out′ ≡ together out (added .out) → Runwise (b + 1) out′ (added .sourced)
+  runs-go-on b run out out′ sourced added h is v adds few new =
       record {
         within = omega arith;
-        out-is = added ∙ by-order 0 (countOf f a b) with-run with-none;
-        sourced-is = past ∙ by-order 0 (countOf f a b) past-run past-none;
-        many-few = rw added (omega arith);
-        short-few = rw added (omega arith);
-        bytes-few = rw added (omega arith);
+        out-is = new ∙ by-order 0 (countOf f a b) with-run with-none;
+        sourced-is = adds .sourced-is ∙ by-order 0 (countOf f a b) past-run past-none;
+        many-few = rw new (omega arith);
+        short-few = rw new (omega arith);
+        bytes-few = rw new (omega arith);
       }
     where
-      with-run : 0 < countOf f a b → together out new ≡ packetsOut (by s long (dssRuns f a (b + 1)))
+      with-run : 0 < countOf f a b → together out (added .out) ≡ packetsOut (by s long (dssRuns f a (b + 1)))
       with-run some =
-          rw (runs-more f a b some, ← is .0) (ap (λ (x : HandedOut). together x new) (v .out-is) ∙ adds)
+          rw (runs-more f a b some, ← is .0) (ap (λ (x : HandedOut). together x (added .out)) (v .out-is) ∙ adds .out-is)
 
       past-run : 0 < countOf f a b → sourcedPast s long (dssRuns f a b ++ (run ∷ [])) ≡ sourcedPast s long (dssRuns f a (b + 1))
       past-run some = rw (runs-more f a b some, ← is .0)
@@ -70,10 +70,10 @@ module _ (f : List ℕ) (a blocks : ℕ) (s : ℕ → ℕ) (long : ℕ) where
       silent : countOf f a b ≤ 0 → run .count ≡ 0
       silent none = omega (arith, ap (λ (u : Run). u .count) (is .0))
 
-      with-none : countOf f a b ≤ 0 → together out new ≡ packetsOut (by s long (dssRuns f a (b + 1)))
+      with-none : countOf f a b ≤ 0 → together out (added .out) ≡ packetsOut (by s long (dssRuns f a (b + 1)))
       with-none none =
           let count = silent none in
-          rw (runs-same f a b none) (same-out (together out new) out (omega arith) (omega arith) (omega arith) ∙ v .out-is)
+          rw (runs-same f a b none) (same-out (together out (added .out)) out (omega arith) (omega arith) (omega arith) ∙ v .out-is)
 
       past-none : countOf f a b ≤ 0 → sourcedPast s long (dssRuns f a b ++ (run ∷ [])) ≡ sourcedPast s long (dssRuns f a (b + 1))
       past-none none = rw (runs-same f a b none) (kept-past s long (dssRuns f a b) run (silent none))

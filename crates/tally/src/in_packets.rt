@@ -1,22 +1,27 @@
-// What an SP recording hands out: run by run, with the complete reads of a run counted by a division. Within a run only the first packet can
-// be short though its read is complete, so that besides it is enough to know of each run whether what is carried into it came from the file.
-// Rests on sp, for the runs, and on packets, for how far so many packets go.
+// What an SP recording hands out: run by run, with the complete reads of a run that is cut counted by a division. Within a run only the first
+// packet can be short though its read is complete, so that besides it is enough to know of each run whether what is carried into it came from
+// the file. Rests on sp, for the runs, and on packets, for how far so many packets go.
 use crate::HandedOut;
 use blocks::PAYLOAD;
 use blocks::StreamPlace;
 use sp::Run;
 use whole::Recording;
 ghost use mathlib.Core.Path.{_≡_};
-ghost use Prim.Native.Nat.{ℕ, _-_, _*_, _≤_, _^_};
-ghost use mathlib.Core.List.{List, [], _∷_, _++_};
-ghost use mathlib.Core.Bool.{cond};
-ghost use Rattle.packets.specs.Walk.{parity};
+ghost use Prim.Native.Nat.{ℕ, _+_, _*_, _≤_, _<_, _^_};
+ghost use mathlib.Core.List.{List};
+ghost use Rattle.packets.specs.Walk.{reach};
 ghost use Rattle.sp.specs.declared.Run.{Run};
 ghost use Rattle.whole.specs.Admissions.{Sound, announcedBy};
 ghost use Rattle.sp.specs.ReadLists.{dssRuns, ds2Runs};
 ghost use Rattle.sp.specs.Readings.{readingOf};
 ghost use Rattle.tally.specs.HandedOut.{packetsOut};
-ghost use Rattle.tally.specs.Inner.{by, together, oursIn, sourcedPast};
+ghost use Rattle.tally.specs.Inner.{oursIn, uptoUnswapped, pastCut, pastComplete, addsComplete, addsCut, sourcedPast, Adds};
+
+// What a run adds, and whether what is carried past it came from the file.
+struct Added {
+    out: HandedOut,
+    sourced: bool,
+}
 
 // How many packets of a run are short though their reads are complete, of which there are so many: the first, if it is swapped and what is
 // carried to it did not come from the file.
@@ -32,29 +37,9 @@ fn ours_in(swap: bool, sourced: bool, complete: usize) -> usize
     if swap { 1 } else { 0 }
 }
 
-// What a run adds that is read after others, in a stream of so many bytes; sourced says whether what is carried past those came from the file.
-fn of_run(run: Run, long: usize, sourced: bool) -> HandedOut
-    requires { ⌜ (run .count ≤ 2 ^ 48) × (long ≤ 2 ^ 48) ⌝ }
-    ensures counted { λ r. ⌜ ((s : ℕ → ℕ) (runs : List Run) → sourced ≡ sourcedPast s long runs → together (packetsOut (by s long runs)) r ≡ packetsOut (by s long (runs ++ (run ∷ [])))) ⌝ }
-    ensures few { λ r. ⌜ (r .many ≡ run .count) × (r .short ≤ run .count) × (r .bytes ≤ 42 * run .count) ⌝ }
-{
-    let begin = run.start.0;
-    let swap = run.swap;
-    let count = run.count;
-    let left = crate::left_from(begin, long);
-    let complete = tables::lesser(count, packets::reads_within(swap, left));
-    let bytes = tables::lesser(packets::reach(swap, count), left);
-    let ours = ours_in(swap, sourced, complete);
-    HandedOut {
-        many: count,
-        short: count - complete + ours,
-        bytes: bytes as u64,
-    }
-}
-
 // How many of so many reads there are up to the last unswapped one: all, if the next is swapped, and else all but the last.
 fn upto_unswapped(swap: bool, count: usize) -> usize
-    ensures { λ r. ⌜ r ≡ cond (parity swap count) count (count - 1) ⌝ }
+    ensures { λ r. ⌜ r ≡ uptoUnswapped swap count ⌝ }
 {
     if packets::parity(swap, count) {
         return count;
@@ -62,20 +47,74 @@ fn upto_unswapped(swap: bool, count: usize) -> usize
     crate::left_from(1, count)
 }
 
-// Whether what is carried past a run came from the file: byte 40 of its last unswapped read, which is the last but one of that read's bytes; and
-// without such a read what was carried into it.
-fn sourced_past(run: Run, long: usize, sourced: bool) -> bool
-    requires { ⌜ (run .count ≤ 2 ^ 48) × (long ≤ 2 ^ 48) ⌝ }
-    ensures { λ r. ⌜ ((s : ℕ → ℕ) (runs : List Run) → sourced ≡ sourcedPast s long runs → r ≡ sourcedPast s long (runs ++ (run ∷ []))) ⌝ }
+// Whether what is carried past a run came from the file, if so many bytes are left for it: byte 40 of its last unswapped read, which is the last
+// but one of that read's bytes; and without such a read what was carried into the run.
+fn sourced_past(swap: bool, count: usize, left: usize, sourced: bool) -> bool
+    requires { ⌜ (count ≤ 2 ^ 48) × (left ≤ 2 ^ 48) ⌝ }
+    ensures { λ r. ⌜ r ≡ pastCut swap count left sourced ⌝ }
 {
-    let begin = run.start.0;
-    let swap = run.swap;
-    let reads = upto_unswapped(swap, run.count);
+    let reads = upto_unswapped(swap, count);
     if reads == 0 {
         return sourced;
     }
-    let left = crate::left_from(begin, long);
     packets::reach(swap, reads) < left + 2
+}
+
+// The same if all its reads are complete: then an unswapped one, whichever, is enough. So it is of nearly every run.
+fn sourced_past_complete(swap: bool, count: usize, sourced: bool) -> bool
+    ensures { λ r. ⌜ r ≡ pastComplete swap count sourced ⌝ }
+{
+    if packets::swap_bit(swap) < count {
+        return true;
+    }
+    sourced
+}
+
+// What a run adds to those before it whose reads are all complete and end so many bytes on.
+fn of_complete(swap: bool, count: usize, end: usize, sourced: bool) -> Added
+    ensures { λ r. ⌜ r ≡ addsComplete swap count end sourced ⌝ }
+{
+    let short = ours_in(swap, sourced, count);
+    let out = HandedOut {
+        many: count,
+        short,
+        bytes: end as u64,
+    };
+    let sourced = sourced_past_complete(swap, count, sourced);
+    Added { out, sourced }
+}
+
+// And one for which so many bytes are left, fewer than its reads take.
+fn of_cut(swap: bool, count: usize, left: usize, sourced: bool) -> Added
+    requires { ⌜ (count ≤ 2 ^ 48) × (left ≤ 2 ^ 48) × (left < reach swap count) ⌝ }
+    ensures { λ r. ⌜ ((m : ℕ) × (m < count) × (reach swap m ≤ left) × (left < reach swap (m + 1)) × (r ≡ addsCut swap count m left sourced)) ⌝ }
+{
+    let complete = packets::reads_within(swap, left);
+    let ours = ours_in(swap, sourced, complete);
+    let out = HandedOut {
+        many: count,
+        short: count - complete + ours,
+        bytes: left as u64,
+    };
+    let sourced = sourced_past(swap, count, left, sourced);
+    Added { out, sourced }
+}
+
+// What a run adds that is read after others, in a stream of so many bytes; sourced says whether what is carried past those came from the file.
+fn of_run(run: Run, long: usize, sourced: bool) -> Added
+    requires { ⌜ (run .count ≤ 2 ^ 48) × (long ≤ 2 ^ 48) ⌝ }
+    ensures adds { λ r. ⌜ ((s : ℕ → ℕ) (runs : List Run) → sourced ≡ sourcedPast s long runs → Adds s long runs run r) ⌝ }
+    ensures few { λ r. ⌜ (r .out .many ≡ run .count) × (r .out .short ≤ run .count) × (r .out .bytes ≤ 42 * run .count) ⌝ }
+{
+    let begin = run.start.0;
+    let swap = run.swap;
+    let count = run.count;
+    let left = crate::left_from(begin, long);
+    let end = packets::reach(swap, count);
+    if end <= left {
+        return of_complete(swap, count, end, sourced);
+    }
+    of_cut(swap, count, left, sourced)
 }
 
 // For the rest of this crate. What a DSS recording hands out: a run for each block, which for a silent one has no packets.
@@ -95,8 +134,9 @@ pub fn of_dss(file: &[u8], recording: Recording) -> HandedOut
     let mut block = 0;
     while block < blocks {
         let run = sp::dss_run(file, start, block);
-        out = crate::together(out, of_run(run, long, sourced));
-        sourced = sourced_past(run, long, sourced);
+        let added = of_run(run, long, sourced);
+        out = crate::together(out, added.out);
+        sourced = added.sourced;
         block += 1;
     }
     out
@@ -123,5 +163,6 @@ pub fn of_ds2(file: &[u8], recording: Recording, announced: usize) -> HandedOut
         swap,
         count: announced,
     };
-    of_run(run, PAYLOAD * blocks, false)
+    let added = of_run(run, PAYLOAD * blocks, false);
+    added.out
 }

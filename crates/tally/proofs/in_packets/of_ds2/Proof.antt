@@ -36,9 +36,10 @@ of-run-requires c κs =
 
 returns-2 : tie.Need-returns-2
 returns-2 c =
-    let w = c .before in
+    let o = c .before in
+    let w = o .before in
     let s = w .before .before .before .before in
-    rw (← w .swap-flag .ensures, ← s .pre .1) (run-alone _ _ _ _ (c .of-run .ensures .0 _ [] (none-past _ _)))
+    rw (← w .swap-flag .ensures, ← s .pre .1) (run-alone _ _ _ _ (o .of-run .ensures .0 _ [] (none-past _ _) .out-is))
 
 pub of-ds2-spec : {M : Type 1} → statement M
 of-ds2-spec = tie.close (tie.spec returns swap-flag-requires mul-of-run of-run-requires returns-2)

@@ -39,11 +39,6 @@ together-requires c κs =
     let s = c .before .before .before .before .before .before in
     omega (arith, few-blocks _ (s .args .recording) (s .pre))
 
-sourced-past-requires : tie.Need-sourced-past-requires Inv-loop μ-loop
-sourced-past-requires c κs =
-    let s = c .before .before .before .before .before .before .before in
-    omega (arith, few-blocks _ (s .args .recording) (s .pre))
-
 add-block : tie.Need-add-block Inv-loop μ-loop
 add-block c = search needs
 
@@ -52,14 +47,12 @@ loop-less c = search needs
 
 loop-again : tie.Need-loop-again Inv-loop μ-loop
 loop-again c =
-    let t = c .before in
-    let o = t .before in
+    let o = c .before in
     let r = o .before in
     let l = r .before .before .loop in
     let v = l .inv in
-    runs-go-on _ _ _ _ _ (l .block) (r .dss-run .result) (l .out) (o .of-run .result) _ (l .sourced) _ (r .before .loop-test .taken)
-    (r .dss-run .ensures) v (o .of-run .ensures .0 _ _ (v .sourced-is)) (o .of-run .ensures .1) (t .together .ensures)
-    (c .sourced-past .ensures _ _ (v .sourced-is))
+    runs-go-on _ _ _ _ _ (l .block) (r .dss-run .result) (l .out) _ (l .sourced) (o .of-run .result) (r .before .loop-test .taken)
+    (r .dss-run .ensures) v (o .of-run .ensures .0 _ _ (v .sourced-is)) (o .of-run .ensures .1) (c .together .ensures)
 
 returns : tie.Need-returns Inv-loop μ-loop
 returns c = runs-end _ _ _ _ _ (c .loop-test .left) (c .before .loop .inv)
@@ -75,7 +68,6 @@ of-dss-spec =
     dss-run-requires
     of-run-requires
     together-requires
-    sourced-past-requires
     add-block
     loop-less
     loop-again

@@ -1,10 +1,13 @@
--- `tally::in_packets::of_run` meets its contract: the reads that end within the bytes that are left are complete, and no others.
+-- `tally::in_packets::of_run` meets its contract: by whether all its reads are complete.
 -- Assumes nothing.
-use Prim.Native.Nat.{min}
-use mathlib.Core.Path.{_≡_, refl}
+use Prim.Native.Nat.{ℕ, _+_, _-_, _≤_, _<_}
+use mathlib.Core.Path.{_≡_, refl, ap, _∙_}
 use native.Mathlib.Omega.{arith}
+use Rattle.packets.specs.Walk.{reach}
 use Rattle.packets.proofs.Reaches.{reach-most}
-use Rattle.tally.proofs.Packetwise.{run-adds}
+use Rattle.tally.specs.Inner.{addsComplete, addsCut}
+use Rattle.tally.proofs.Packetwise.{ours-most}
+use Rattle.tally.proofs.Past.{complete-adds, cut-adds}
 use borrow.Author.Needs.{needs}
 use Rattle.tally.proofs.in_packets.of_run.Statement.{statement}
 use Rattle.tally.proofs.in_packets.of_run.Tie as tie
@@ -12,38 +15,48 @@ use Rattle.tally.proofs.in_packets.of_run.Tie as tie
 left-from-requires : tie.Need-left-from-requires
 left-from-requires c κs = search needs
 
-reads-within-requires : tie.Need-reads-within-requires
-reads-within-requires c κs = search needs
-
-lesser-requires : tie.Need-lesser-requires
-lesser-requires c κs = search needs
-
 reach-requires : tie.Need-reach-requires
 reach-requires c κs = search needs
 
-lesser-requires-2 : tie.Need-lesser-requires-2
-lesser-requires-2 c κs = search needs
-
-ours-in-requires : tie.Need-ours-in-requires
-ours-in-requires c κs = search needs
-
-sub-t11 : tie.Need-sub-t11
-sub-t11 c = search needs
-
-add-t12 : tie.Need-add-t12
-add-t12 c = search needs
+of-complete-requires : tie.Need-of-complete-requires
+of-complete-requires c κs = search needs
 
 returns : tie.Need-returns
 returns c =
-    let l = c .before .before .before .before .before in
-    let w = c .before .before .before .before .reads-within in
+    let e = c .before .before in
+    let l = e .before in
     let a = l .before .args in
-    let complete : c .before .before .before .lesser .result ≡ min (a .run .count) (w .result) = omega arith in (
-      (λ s runs is.
-          run-adds s (a .long) runs (a .run) (w .result) (omega arith) (omega arith) (a .sourced) is _ refl
-          (rw (← complete) (omega (arith, c .ours-in .ensures .0)))
-          (omega arith)),
-      omega (arith, reach-most (a .run .swap) (a .run .count)),
+    let run = a .run in
+    let is : c .of-complete .result ≡ addsComplete (run .swap) (run .count) (reach (run .swap) (run .count)) (a .sourced) =
+    c .of-complete .ensures ∙ ap (λ (end : ℕ). addsComplete (run .swap) (run .count) end (a .sourced)) (e .reach .ensures) in
+    let all : reach (run .swap) (run .count) ≤ a .long - run .start .0 = omega (arith, e .reach .ensures, l .left-from .ensures) in (
+      (λ s runs carried. rw is (complete-adds s (a .long) runs run (a .sourced) carried all)),
+      rw is (refl, ours-most (run .swap) (a .sourced) (run .count), reach-most (run .swap) (run .count)),
+    )
+
+of-cut-requires : tie.Need-of-cut-requires
+of-cut-requires c κs = search needs
+
+returns-2 : tie.Need-returns-2
+returns-2 c =
+    let e = c .before .before in
+    let l = e .before in
+    let a = l .before .args in
+    let run = a .run in
+    let left = a .long - run .start .0 in
+    let w = c .of-cut .ensures in
+    let m = w .0 in
+    let is : c .of-cut .result ≡ addsCut (run .swap) (run .count) m left (a .sourced) =
+    w .4 ∙ ap (λ (x : ℕ). addsCut (run .swap) (run .count) m x (a .sourced)) (l .left-from .ensures) in
+    let cut : left < reach (run .swap) (run .count) = omega (arith, e .reach .ensures, l .left-from .ensures, c .before .if1 .left) in
+    let within : reach (run .swap) m ≤ left = omega (arith, l .left-from .ensures, w .2) in
+    let past : left < reach (run .swap) (m + 1) = omega (arith, l .left-from .ensures, w .3) in (
+      (λ s runs carried. rw is (cut-adds s (a .long) runs run (a .sourced) carried m (w .1) within past cut)),
+      rw is (
+        refl,
+        omega (arith, w .1, ours-most (run .swap) (a .sourced) m),
+        omega (arith, reach-most (run .swap) (run .count)),
+      ),
     )
 
 pub of-run-spec : {M : Type 1} → statement M
@@ -51,11 +64,8 @@ of-run-spec =
     tie.close
     (tie.spec
     left-from-requires
-    reads-within-requires
-    lesser-requires
     reach-requires
-    lesser-requires-2
-    ours-in-requires
-    sub-t11
-    add-t12
-    returns)
+    of-complete-requires
+    returns
+    of-cut-requires
+    returns-2)

@@ -1,11 +1,12 @@
 -- `tally::in_packets::sourced_past` meets its contract: with no unswapped read in the run, and with one.
 -- Assumes nothing.
-use Prim.Native.Nat.{_-_, _<_}
-use mathlib.Core.Path.{sym, _∙_}
+use Prim.Native.Nat.{_-_}
+use mathlib.Core.Path.{_≡_, sym, ap, _∙_}
 use native.Mathlib.Omega.{arith}
+use borrow.Author.Tests.{eq-eqb, ne-eqb}
 use Rattle.tables.proofs.Cases.{either-most}
-use Rattle.packets.specs.Walk.{parity}
-use Rattle.tally.proofs.Past.{past-run}
+use Rattle.packets.specs.Walk.{reach, parity}
+use Rattle.tally.specs.Inner.{uptoUnswapped}
 use borrow.Author.Needs.{needs}
 use Rattle.tally.proofs.in_packets.sourced_past.Statement.{statement}
 use Rattle.tally.proofs.in_packets.sourced_past.Tie as tie
@@ -15,33 +16,28 @@ upto-unswapped-requires c κs = search needs
 
 returns : tie.Need-returns
 returns c =
-    let u = c .before in
-    let a = u .before .args in
-    λ s runs is. is ∙ sym (past-run s (a .long) runs (a .run) _ (u .upto-unswapped .ensures) .0 (c .if1 .taken))
-
-left-from-requires : tie.Need-left-from-requires
-left-from-requires c κs = search needs
+    let a = c .before .before .args in
+    let none : uptoUnswapped (a .swap) (a .count) ≡ 0 = sym (c .before .upto-unswapped .ensures) ∙ c .if1 .taken in
+    simp (eq-eqb (uptoUnswapped (a .swap) (a .count)) 0 none)
 
 reach-requires : tie.Need-reach-requires
 reach-requires c κs =
-    let u = c .before .before in
+    let u = c .before in
     let a = u .before .args in
-    let n = a .run .count in
-    rw (u .upto-unswapped .ensures) (either-most (parity (a .run .swap) n) {x = n} {y = n - 1} (omega arith) (omega arith))
+    let n = a .count in
+    rw (u .upto-unswapped .ensures) (either-most (parity (a .swap) n) {x = n} {y = n - 1} (omega arith) (omega arith))
 
 add-result : tie.Need-add-result
 add-result c = search needs
 
 returns-2 : tie.Need-returns-2
 returns-2 c =
-    let l = c .before in
-    let i = l .before in
-    let u = i .before in
+    let u = c .before .before in
     let a = u .before .args in
-    let some : 0 < u .upto-unswapped .result = omega (arith, i .if1 .left) in
-    λ s runs is. rw (c .reach .ensures, l .left-from .ensures) (sym (past-run s (a .long) runs (a .run) _ (u .upto-unswapped .ensures) .1 some))
+    let upto = u .upto-unswapped .ensures in
+    let some : uptoUnswapped (a .swap) (a .count) ≡ 0 → ⊥ = λ none. c .before .if1 .left (upto ∙ none) in
+    simp (ne-eqb (uptoUnswapped (a .swap) (a .count)) 0 some, c .reach .ensures ∙ ap (reach (a .swap)) upto)
 
 pub sourced-past-spec : {M : Type 1} → statement M
 sourced-past-spec =
-    tie.close
-    (tie.spec upto-unswapped-requires returns left-from-requires reach-requires add-result returns-2)
+    tie.close (tie.spec upto-unswapped-requires returns reach-requires add-result returns-2)
