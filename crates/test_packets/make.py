@@ -56,7 +56,7 @@ def kinds(case, file, found):
     blocks = vectors.admit(file, vectors.DS2, "SP") if given or beyond else vectors.Blocks(b"", 0)
     whole = vectors.packets(blocks, False)
     number, total, end = case.number, len(whole), len(blocks.stream)
-    here = whole[number] if given else vectors.Packet(bytes(42), 0, 0, 0)
+    here = whole[number] if given else vectors.Packet(bytes(42), 0, 0, 0, False)
     place, swapped = here.ready - here.size, here.size == 40
     across = given and here.ready <= end and place // PAYLOAD < (here.ready - 1) // PAYLOAD
     return {

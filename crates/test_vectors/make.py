@@ -11,9 +11,9 @@ cannot be asked or answers otherwise. It also stops if some call is never refuse
 can give.
 
 The list has the description's examples, each magic, type, refusal and boundary, the scan, SP packets,
-QP, QP7, fetches, payloads, pieces, the hold, rooms, the inputs that show the Rust's faults, and then
-recordings as a recorder makes them, damaged copies of these, random headers and noise. LIST.md says
-what each number of the list is.
+QP, QP7, fetches, payloads, pieces, the hold, rooms, the inputs that show the Rust's faults, then
+recordings as a recorder makes them, damaged copies of these, random headers and noise, and at last
+swapped packets whose carried byte is the file's or is not. LIST.md says what each number of the list is.
 """
 import collections
 from itertools import product
@@ -111,7 +111,8 @@ def fits(found, room, number=8):
 
 Walk = collections.namedtuple("Walk", "start swap count end")
 # `ready`: a reader in pieces lets the packet out once whole blocks reach this stream place
-Packet = collections.namedtuple("Packet", "bytes count size ready")
+# `whole`: all of its read came from the stream, and if it is swapped its carried byte too
+Packet = collections.namedtuple("Packet", "bytes count size ready whole")
 
 def walks(blocks, dss):
     """One walk for DS2; for DSS one for each announcing block."""
@@ -123,7 +124,7 @@ def walks(blocks, dss):
             for start, swap, count in found]
 
 def packets(blocks, dss):
-    out, carry = [], 0
+    out, carry = [], b""  # the carried byte where it is the stream's, else nothing, for which a zero stands
     for walk in walks(blocks, dss):
         place, swap = walk.start, walk.swap
         for _ in range(walk.count):
@@ -131,12 +132,13 @@ def packets(blocks, dss):
             read = blocks.stream[place:place + size]
             c, packet = read.ljust(size, b"\0"), bytearray(42)
             if swap:
-                packet[0:40:2], packet[1], packet[3:42:2] = c[1::2], carry, c[0::2]
+                packet[0:40:2], packet[1:2], packet[3:42:2] = c[1::2], carry or b"\0", c[0::2]
             else:
-                packet[:], carry = c, c[40]
+                packet[:], carry = c, read[40:41]
             packet[40] = 0
+            whole = len(read) == size and (not swap or carry != b"")
             place, swap = place + size, 1 - swap
-            out.append(Packet(bytes(packet), len(read), size, walk.end if dss else place))
+            out.append(Packet(bytes(packet), len(read), size, walk.end if dss else place, whole))
     return out
 
 def read_dss(file, room):
@@ -189,15 +191,15 @@ def tally(file):
     dss = file[1:4] == b"dss"
     blocks = admit(file, DSS if dss else DS2)
     if dss or blocks.reading == "SP":
-        sizes = [(p.count, p.size) for p in packets(blocks, dss)]
+        handed = [(p.count, p.whole) for p in packets(blocks, dss)]
     elif blocks.reading == "QP":  # a frame past its segment's end is missing, the one before perhaps short
-        sizes = [(min(56, length - at), 56) for _, length, _, _ in read_qp(file, AMPLE)[1]
-                 for at in range(0, length, 56)]
+        handed = [(min(56, length - at), length - at >= 56) for _, length, _, _ in read_qp(file, AMPLE)[1]
+                  for at in range(0, length, 56)]
     else:
-        sizes = [(len(r), len(r)) for _, r in read_qp7(file, AMPLE, AMPLE)[0]]
+        handed = [(len(r), True) for _, r in read_qp7(file, AMPLE, AMPLE)[0]]
     kind = 0 if dss else 1 + ("SP", "QP", "QP7").index(blocks.reading)
-    return [kind, blocks.start, len(blocks.headers), blocks.announced, len(sizes),
-            sum(have < full for have, full in sizes), sum(have for have, _ in sizes)]
+    return [kind, blocks.start, len(blocks.headers), blocks.announced, len(handed),
+            sum(not whole for _, whole in handed), sum(have for have, _ in handed)]
 
 def listing(file):
     refusal, counts = attempt(tally, None, file)
@@ -695,6 +697,29 @@ def faults():
             headers = [head(3, 255), head(3, 1, 0, 1)] + [SILENT] * more
             yield Case(f"{name(magic)}, carry from a packet once short, {more} silent", magic, headers)
 
+def carried():
+    """Where the byte that a swapped packet is given comes from: the file, a read that was cut before it, or nowhere."""
+    block = {"s": head(3, 1, 0, 1), "u": head(3, 1), "-": SILENT}
+    for magic in DSS + DS2:
+        yield Case(f"{name(magic)}, begins swapped", magic, [head(3, 12, 0, 1)])
+    for magic, first, second in product((DSS_TWO, DS2_ONE), (0, 1), (0, 1)):
+        headers = [head(3, 0, 0, first), head(3, 5, 0, second)]
+        yield Case(f"{name(magic)}, silent with flag {first}, then flag {second}", magic, headers)
+    for pattern in "s ss -s su sus ssus ssssu s-s-u-s us uss u-s- susus".split():
+        yield Case(f"a packet a block as {pattern}", DSS_TWO, [block[p] for p in pattern])
+        yield Case(f"a packet a block as {pattern}, after 255", DSS_THREE, [head(3, 255), *(block[p] for p in pattern)])
+    # the last unswapped read ends with the stream of the two blocks, and for each more it lacks two bytes:
+    # at one more it has 40, and byte 40 is not among them
+    for (byte1, count, swap), beyond, more in product(((37, 23, 0), (16, 24, 1)), (0, 1), (0, 1, 2, 20, 21, 22)):
+        headers = [head(byte1 + more, count + beyond, 0, swap), head(3, 3, 0, 1)]
+        yield Case(f"{count + beyond} from byte {byte1 + more}, flag {swap}, then swapped", DSS_TWO, headers)
+    for pattern in ("us", "sus"):  # a zero that came from the file is a byte like others
+        yield Case(f"a packet a block as {pattern}, of zeros", DSS_TWO, [block[p] for p in pattern], fill=0)
+    for byte1, count in product((235, 236, 254, 255), (1, 2)):
+        yield Case(f"begins swapped, {count} from byte {byte1}", DSS_THREE, [head(byte1, count, 0, 1)])
+    for extra in (0, -1):
+        yield Case(f"swapped after 35, end {extra % 512}", DSS_TWO, [head(44, 35), block["s"], SILENT], extra)
+
 def chance(count=230):
     dice = random.Random(1).random  # promised to be the same in every version of Python
     roll = lambda sides: int(dice() * sides)
@@ -716,7 +741,7 @@ def chance(count=230):
 # ---- The list
 
 GROUPS = (examples, magics_and_types, lengths, headers_alone, scan, sp_packets, silent_blocks, qp_segments, qp7_records,
-          fetches_and_payloads, pieces, other_kinds, hold, rooms, faults, chance)
+          fetches_and_payloads, pieces, other_kinds, hold, rooms, faults, chance, carried)
 # Where each call's refusal stands, and by which numbers it is refused somewhere in the list. Refusal 2 is not
 # among them: no file of the list is long enough.
 REFUSALS = {"demux_dss": (4, {0, 1, 3, 8}), "SP": (9, {0, 1, 3, 8, 11}), "QP": (14, {0, 1, 3, 9, 11}),

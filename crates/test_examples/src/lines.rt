@@ -1,9 +1,12 @@
-// The listing's lines: of no input, of 65,536 bytes and one more, of each kind of file and for each refusal. Rests on listing, and
-// on test_samples for the files.
+// The listing's lines: of no input, of 65,536 bytes and one more, of each kind of file, of swapped packets whose carried byte is no byte of
+// the file, and for each refusal. Rests on listing, and on test_samples for the files.
+use test_samples::begins_swapped;
 use test_samples::ds2_file;
 use test_samples::long_records;
 use test_samples::longest;
 use test_samples::shown::text;
+use test_samples::swapped_after_cut;
+use test_samples::swapped_twice;
 use test_samples::two_blocks;
 ghost use mathlib.Core.Path.{_≡_};
 ghost use Prim.Native.Nat.{_≤_};
@@ -49,6 +52,13 @@ fn by_kind() {
     show_first(b"QP7", ds2_file(1, 10, 7), 2048);
 }
 
+// A swapped packet that has its 40 bytes: before any unswapped read, after one that was cut, and after one that was not.
+fn by_carry() {
+    show_first(b"begins swapped", begins_swapped(), 2048);
+    show_first(b"swapped after a cut read", swapped_after_cut(), 2048);
+    show_first(b"swapped before and after a read", swapped_twice(), 2560);
+}
+
 fn by_refusal() {
     show_first(b"first byte 2", ds2_file(2, 0, 0), 4096);
     show_first(b"a cut header", ds2_file(1, 0, 0), 1535);
@@ -59,5 +69,6 @@ fn by_refusal() {
 pub fn show_lines() {
     by_length();
     by_kind();
+    by_carry();
     by_refusal();
 }

@@ -32,35 +32,68 @@ fn byte(file: &[u8], at: usize) -> usize {
     }
 }
 
-// How many of some packets in a row are short, by their counts.
-fn short_in_run(counts: &[u8], first: usize, many: usize, swap: bool) -> usize {
-    let mut short: usize = 0;
-    let mut k = 0;
-    while k < many {
-        let size = if (k % 2 == 0) == swap { 40 } else { 42 };
-        if byte(counts, test_tools::sum(first, k)) != size {
-            short = test_tools::sum(short, 1);
-        }
-        k += 1;
-    }
-    short
+// What packets in a row leave: how many of them are short, and whether the byte that is carried on came from the file.
+struct Left {
+    short: usize,
+    sourced: bool,
 }
 
-// How many packets of a DSS file are short: each block begins by its own flag.
+// Before any packet: the carried byte is a zero from nowhere.
+fn nothing() -> Left {
+    Left {
+        short: 0,
+        sourced: false,
+    }
+}
+
+// Whether a packet with so many file bytes is short: by its read, and a swapped one by what it is given too.
+fn is_short(count: usize, swapped: bool, sourced: bool) -> bool {
+    if swapped {
+        return count != 40 || !sourced;
+    }
+    count != 42
+}
+
+// A packet more. Byte 40 of an unswapped read is carried on, and a swapped one leaves the carry as it was.
+fn with_packet(before: Left, count: usize, swapped: bool) -> Left {
+    let more = if is_short(count, swapped, before.sourced) {
+        1
+    } else {
+        0
+    };
+    Left {
+        short: test_tools::sum(before.short, more),
+        sourced: if swapped { before.sourced } else { 40 < count },
+    }
+}
+
+// Some packets more in a row, by their counts.
+fn short_in_run(before: Left, counts: &[u8], first: usize, many: usize, swap: bool) -> Left {
+    let mut left = before;
+    let mut k = 0;
+    while k < many {
+        let count = byte(counts, test_tools::sum(first, k));
+        left = with_packet(left, count, (k % 2 == 0) == swap);
+        k += 1;
+    }
+    left
+}
+
+// How many packets of a DSS file are short: each block begins by its own flag, and with what those before it carry on.
 fn short_in_dss(file: &[u8], made: Made, counts: &[u8]) -> usize {
-    let mut short: usize = 0;
+    let mut left = nothing();
     let mut first: usize = 0;
     let mut place = made.start;
     let mut block = 0;
     while block < made.blocks {
         let many = byte(file, test_tools::sum(place, 2));
         let swap = 128 <= byte(file, place);
-        short = test_tools::sum(short, short_in_run(counts, first, many, swap));
+        left = short_in_run(left, counts, first, many, swap);
         first = test_tools::sum(first, many);
         place = test_tools::sum(place, 512);
         block += 1;
     }
-    short
+    left.short
 }
 
 // How many file bytes so many packets have.
@@ -76,7 +109,8 @@ fn sum_of(counts: &[u8], many: usize) -> usize {
 
 fn short_in(file: &[u8], made: Made, ds2: bool, counts: &[u8], many: usize) -> usize {
     if ds2 {
-        return short_in_run(counts, 0, many, 128 <= byte(file, made.start));
+        let left = short_in_run(nothing(), counts, 0, many, 128 <= byte(file, made.start));
+        return left.short;
     }
     short_in_dss(file, made, counts)
 }

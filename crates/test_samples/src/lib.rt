@@ -70,6 +70,43 @@ pub fn dss_file(count: u8) -> [u8; 4096]
     file
 }
 
+// A DS2 file whose block begins 8F 03 0C: packet 0 is swapped, and no read stands before it.
+pub fn begins_swapped() -> [u8; 4096]
+    ensures { λ r. ⌜ length r ≡ 4096 ⌝ }
+{
+    let mut file = ds2_file(1, 12, 0);
+    file[1536] = 143;
+    file[1537] = 3;
+    file
+}
+
+// A DSS file of two blocks, 0F 03 FF and 8F 03 01: the swapped packet has all its 40 bytes, and the unswapped read before it has none.
+pub fn swapped_after_cut() -> [u8; 4096]
+    ensures { λ r. ⌜ length r ≡ 4096 ⌝ }
+{
+    let mut file = dss_file(255);
+    file[1024] = 15;
+    file[1536] = 143;
+    file[1537] = 3;
+    file[1538] = 1;
+    file
+}
+
+// A DSS file of three blocks, 8F 03 01, 0F 03 01 and 8F 03 01: a swapped packet before any unswapped one, and one after it.
+pub fn swapped_twice() -> [u8; 4096]
+    ensures { λ r. ⌜ length r ≡ 4096 ⌝ }
+{
+    let mut file = dss_file(1);
+    file[1024] = 143;
+    file[1536] = 15;
+    file[1537] = 3;
+    file[1538] = 1;
+    file[2048] = 143;
+    file[2049] = 3;
+    file[2050] = 1;
+    file
+}
+
 // The longest DS2 file that is listed, of 125 blocks, whose first announces 13 packets; and a byte more.
 pub fn longest() -> [u8; 65537]
     ensures { λ r. ⌜ length r ≡ 65537 ⌝ }

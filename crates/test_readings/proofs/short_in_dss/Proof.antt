@@ -6,10 +6,13 @@ use Rattle.test_readings.proofs.short_in_dss.Statement.{statement}
 use Rattle.test_readings.proofs.short_in_dss.Tie as tie
 
 abbrev Inv-loop : tie.InvT-loop
-Inv-loop file made counts short₀ first₀ place₀ block₀ short first place block = block ≤ made .blocks
+Inv-loop file made counts left₀ first₀ place₀ block₀ left first place block = block ≤ made .blocks
 
 abbrev μ-loop : tie.MeasureT-loop
-μ-loop file made counts short₀ first₀ place₀ block₀ short first place block = made .blocks - block
+μ-loop file made counts left₀ first₀ place₀ block₀ left first place block = made .blocks - block
+
+nothing-requires : tie.Need-nothing-requires Inv-loop μ-loop
+nothing-requires c κs = search needs
 
 loop-holds : tie.Need-loop-holds Inv-loop μ-loop
 loop-holds c = search needs
@@ -32,9 +35,6 @@ sum-requires-2 c κs = search needs
 sum-requires-3 : tie.Need-sum-requires-3 Inv-loop μ-loop
 sum-requires-3 c κs = search needs
 
-sum-requires-4 : tie.Need-sum-requires-4 Inv-loop μ-loop
-sum-requires-4 c κs = search needs
-
 add-block : tie.Need-add-block Inv-loop μ-loop
 add-block c = search needs
 
@@ -53,6 +53,7 @@ short-in-dss-spec =
     (tie.spec
     Inv-loop
     μ-loop
+    nothing-requires
     loop-holds
     sum-requires
     byte-requires
@@ -60,7 +61,6 @@ short-in-dss-spec =
     short-in-run-requires
     sum-requires-2
     sum-requires-3
-    sum-requires-4
     add-block
     loop-less
     loop-again

@@ -6,10 +6,10 @@ use Rattle.test_readings.proofs.short_in_run.Statement.{statement}
 use Rattle.test_readings.proofs.short_in_run.Tie as tie
 
 abbrev Inv-loop : tie.InvT-loop
-Inv-loop counts first many swap short₀ k₀ short k = k ≤ many
+Inv-loop counts first many swap left₀ k₀ left k = k ≤ many
 
 abbrev μ-loop : tie.MeasureT-loop
-μ-loop counts first many swap short₀ k₀ short k = many - k
+μ-loop counts first many swap left₀ k₀ left k = many - k
 
 loop-holds : tie.Need-loop-holds Inv-loop μ-loop
 loop-holds c = search needs
@@ -20,8 +20,8 @@ sum-requires c κs = search needs
 byte-requires : tie.Need-byte-requires Inv-loop μ-loop
 byte-requires c κs = search needs
 
-sum-requires-2 : tie.Need-sum-requires-2 Inv-loop μ-loop
-sum-requires-2 c κs = search needs
+with-packet-requires : tie.Need-with-packet-requires Inv-loop μ-loop
+with-packet-requires c κs = search needs
 
 add-k : tie.Need-add-k Inv-loop μ-loop
 add-k c = search needs
@@ -44,7 +44,7 @@ short-in-run-spec =
     loop-holds
     sum-requires
     byte-requires
-    sum-requires-2
+    with-packet-requires
     add-k
     loop-less
     loop-again
