@@ -236,7 +236,7 @@ def check_rule(header, rule, readme):
 
 def check_help(rule):
     """The rule's part on recordings that begin swapped stands in the help of both intakes, but for the ends of lines and C's quotes."""
-    part = next((squeeze(part) for part in rule.split("\n\n") if part.startswith("A recording that begins swapped ")), None)
+    part = next((squeeze(part) for part in rule.split("\n\n") if part.startswith("A recording with packets that begins swapped ")), None)
     if part is None:
         say("rule", "a part on recordings that begin swapped", "none")
         return

@@ -44,8 +44,8 @@
  *
  * Whole, of any kind: the tally answered, handed out is announced, short is 0, and no byte lies past the last whole block.
  *
- * A recording that begins swapped (DS2: by block 0's flag; DSS: by the first announcing block's) has one or more packets whose carried byte is
- * ours, a zero that nobody recorded: the tally counts them short, and no host calls it complete.
+ * A recording with packets that begins swapped (DS2: by block 0's flag; DSS: by the first announcing block's) has one or more whose carried byte
+ * is ours, a zero that nobody recorded: the tally counts them short, and no host calls it complete.
  *
  * What says nothing: an end on no input (it answers, and there is no recording), a strict end after a lenient one, any end on a reader that
  * open refused, all of which answer 0; a reader opened for another kind, or one of kind 0 that is fed a `\x07ds2` recording: `klov_open` and
@@ -276,8 +276,8 @@ KLOV_MUST_USE klov_answer klov_piece(klov_reader *reader, const uint8_t *src, si
 KLOV_MUST_USE klov_answer klov_strict_end(klov_reader *reader);
 
 /* The lenient end drops a block that is not whole, and hands out packets that are owed, zeros where the file has no bytes, as many as there
- * is room for. In DSS one of them can have its full count and be short, by a carried byte that is such a zero. It is asked again while second is
- * above 0. Refusal 3. */
+ * is room for. In DSS some of them can have their full count and be short all the same, by a carried byte that is ours. It is asked again while
+ * second is above 0. Refusal 3. */
 KLOV_MUST_USE klov_answer klov_lenient_end(klov_reader *reader, uint8_t *out, size_t out_len, uint8_t *counts, size_t counts_len);
 
 /* A DS2 SP file: the header as it is, KLOV_DS2_START bytes that begin `\x01ds2` or `\x03ds2`, and blocks of the packets, which are joined,

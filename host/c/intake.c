@@ -38,7 +38,7 @@ static const char help[] =
     "nobody can tell. Owed are frames that are announced and had not come when the recording ended. Short are packets and frames of\n"
     "which bytes are missing, in a packet with zeros in their place; their numbers follow, counted from 0. To a swapped packet one byte\n"
     "is carried, from the last unswapped read before it: a packet for which that byte is missing is short, be all its own bytes there.\n"
-    "A recording that begins swapped (DS2: by block 0's flag; DSS: by the first announcing block's) has one or more packets whose\n"
+    "A recording with packets that begins swapped (DS2: by block 0's flag; DSS: by the first announcing block's) has one or more whose\n"
     "carried byte is ours, a zero that nobody recorded: the tally counts them short, and no host calls it complete. Of a refused\n"
     "recording no packets are written.\n"
     "\n"

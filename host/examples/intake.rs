@@ -36,7 +36,7 @@ Complete as announced: all that the recording's blocks announce is there. A bloc
 nobody can tell. Owed are frames that are announced and had not come when the recording ended. Short are packets and frames of
 which bytes are missing, in a packet with zeros in their place; their numbers follow, counted from 0. To a swapped packet one byte
 is carried, from the last unswapped read before it: a packet for which that byte is missing is short, be all its own bytes there.
-A recording that begins swapped (DS2: by block 0's flag; DSS: by the first announcing block's) has one or more packets whose
+A recording with packets that begins swapped (DS2: by block 0's flag; DSS: by the first announcing block's) has one or more whose
 carried byte is ours, a zero that nobody recorded: the tally counts them short, and no host calls it complete. Of a refused
 recording no packets are written.
 

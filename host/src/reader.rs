@@ -63,7 +63,7 @@ impl Reader {
     }
 
     /// Drops a block that is not whole, and hands out packets that are owed, as many as there is room for, zeros where the file has
-    /// no bytes. In DSS one of them can have its full count and be short, by a carried byte that is such a zero. It is asked again while
+    /// no bytes. In DSS some of them can have their full count and be short all the same, by a carried byte that is ours. It is asked again while
     /// [`owed`](Reader::owed) is above 0. Refusal 3.
     pub fn lenient_end(&mut self, out: &mut [u8], counts: &mut [u8]) -> Result<usize> {
         let step = raw::lenient_end(&mut self.state, out, counts);

@@ -1,4 +1,4 @@
--- What a host knows whose strict end is answered with refusal 0: the recording that it gave is complete.
+-- What a host knows whose strict end is answered with refusal 0: of the recording that it gave every read is complete.
 -- Assumes nothing.
 use Prim.Native.Nat.{ℕ}
 use mathlib.Core.Path.{_≡_}
@@ -34,7 +34,7 @@ given-fed (no-lenient-end out out′ counts counts′ r c some after) known =
     refused (lenient-refused known c some .0) (given-fed after (reached-by (at-state known (c .carries .comes) .steps)))
 
 -- A host that has opened a reader, given it pieces, and asked whatever was refused in between: if `klov_strict_end` then answers with refusal 0, all
--- that was taken and came out is a complete recording.
+-- that was taken and came out is a complete recording, every read of it.
 pub told-complete : (kind : ℕ) {opened : Opened} → OpenCarries kind opened → opened .answer .refusal ≡ 0 → {pieces : List (List ℕ)} {n : ℕ}
     {packets entries : List ℕ} {last : Reader} → Given (opened .reader) pieces n packets entries last → {stored : Reader} {r : Answer}
     → Advances (StrictCall last) stored r → r .refusal ≡ 0 → CompleteRecording kind (joined pieces) n packets entries

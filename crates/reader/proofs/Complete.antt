@@ -1,4 +1,5 @@
--- What a strict end that succeeds says of a recording: it is complete, and which of its packets are whole. And of a complete one it succeeds.
+-- What a strict end that succeeds says of a recording: every read is complete, and so which packets are whole. And of such a recording it
+-- succeeds.
 -- Assumes nothing.
 use Prim.Native.Nat.{ℕ, _+_, _*_, _-_, _%_, _≤_, _<_}
 use mathlib.Core.Path.{_≡_, refl, sym, ap, _∙_}
@@ -89,8 +90,8 @@ module _ {kind : ℕ} {f : List ℕ} {n : ℕ} {packets entries : List ℕ} (c :
 
 module _ (kind : ℕ) (opening : Step) (opens : Opens kind opening) (known : isKind kind ≡ true) {pieces : List (List ℕ)} {n : ℕ}
     {packets entries : List ℕ} {last : Reader} (fed : Fed (opening .reader) pieces n packets entries last) where
-  -- A strict end that succeeds says that the recording is complete. However a fresh reader was given its pieces, and whatever it has refused
-  -- in between: if a strict end is then answered, all that was taken and came out is a complete recording.
+  -- A strict end that succeeds says that all that the recording announces has come. However a fresh reader was given its pieces, and whatever
+  -- it has refused in between: if a strict end is then answered, all that was taken and came out is a complete recording, every read of it.
   pub strict-end-is-complete : {step : Step} {m : ℕ} → StrictCall last step → demuxedSays (step .answer) ≡ answers m
       → CompleteRecording kind (joined pieces) n packets entries
   strict-end-is-complete {step} {m} call said =

@@ -3,12 +3,16 @@
 use Prim.Native.Nat.{ℕ, suc, _+_, _*_, _≤_, _<_}
 use mathlib.Core.Path.{_≡_, refl, sym, ap, _∙_}
 use mathlib.Core.List.{List, []}
-use mathlib.Core.Bool.{true, false}
+use mathlib.Core.Bool.{true, false, not}
 use native.Mathlib.Numerals.{add-one}
 use native.Mathlib.Omega.{arith}
 use lib.ListN.{getD}
 use Rattle.tables.proofs.Table.{table-at}
-use Rattle.tables.proofs.Cases.{by-test, never}
+use Rattle.tables.specs.Counting.{howMany}
+use Rattle.tables.specs.Leading.{leading}
+use Rattle.tables.proofs.Cases.{by-order, by-test, never}
+use Rattle.tables.proofs.Counting.{first-such}
+use Rattle.tables.proofs.Leading.{leading-leads}
 use Rattle.blocks.specs.Headers.{swapOf, countOf, announcedIn}
 use Rattle.blocks.proofs.Places.{stream-past}
 use Rattle.whole.specs.declared.Recording.{Recording}
@@ -45,14 +49,22 @@ pub carried-byte : (r : Reading) (j k : ℕ) → k < total r → walkAt r k .swa
     → (walkAt r j .place + 40 < r .long) × (getD (packetAt r k) 1 0 ≡ r .stream (walkAt r j .place + 40))
 carried-byte r j k h swapped from = (from .from-file, carried-there r k swapped ∙ carried-is r j k h from)
 
--- Of a packet that is short though its read is complete, byte 1 is ours, and 0: it is swapped, and nothing that is in the file is carried to it.
+-- Of a packet that is short though its read is complete, byte 1 is ours, and 0: it is swapped, and where there is a last unswapped read before it
+-- that read's byte 40 lies past the stream's end.
 pub our-byte : (f : List ℕ) (rec : Recording) (runs : List ℕ → ℕ → ℕ → List Run) (k : ℕ) → k < total (readingOf f rec runs)
     → CompleteAt (readingOf f rec runs) k → wholeAt (readingOf f rec runs) k ≡ false
-    → (walkAt (readingOf f rec runs) k .swap ≡ true) × ((j : ℕ) → CarriedFrom (readingOf f rec runs) j k → ⊥)
+    → (walkAt (readingOf f rec runs) k .swap ≡ true)
+    × ((j : ℕ) → j < k → walkAt (readingOf f rec runs) j .swap ≡ false
+    → ((i : ℕ) → j < i → i < k → walkAt (readingOf f rec runs) i .swap ≡ true) → 506 * rec .blocks ≤ walkAt (readingOf f rec runs) j .place + 40)
     × (getD (packetAt (readingOf f rec runs) k) 1 0 ≡ 0)
 our-byte f rec runs k h complete short = (
   swapped,
-  (λ j from. never (from-carried r j k from) ours),
+  (λ j before unswapped last.
+      by-order (walkAt r j .place + 40) (506 * rec .blocks)
+      (λ inside.
+      absurd
+      (never (from-carried r j k (record { before = before; unswapped = unswapped; last = last; from-file = inside })) ours))
+      (λ past. past)),
   carried-there r k swapped
       ∙ ours-is-zero r refl (λ q past. stream-past f (rec .start .0) (rec .blocks) q past) k h ours,
 )
@@ -70,6 +82,18 @@ our-byte f rec runs k h complete short = (
 pub short-before-unswapped : (r : Reading) (k : ℕ) → ((j : ℕ) → j ≤ k → CompleteAt r j)
     → (wholeAt r k ≡ false → SwappedUpto r k) × (SwappedUpto r k → wholeAt r k ≡ false)
 short-before-unswapped r k complete = (short-only-there r k complete, short-while-swapped r k)
+
+-- So where all reads are complete as many packets are short as are swapped before the first unswapped one.
+pub short-leading : (r : Reading) → ((k : ℕ) → k < total r → CompleteAt r k)
+    → howMany (total r) (λ k. not (wholeAt r k)) ≡ leading (λ k. walkAt r k .swap) (total r)
+short-leading r complete =
+    let v = leading-leads (λ k. walkAt r k .swap) (total r) in
+    first-such (leading (λ k. walkAt r k .swap) (total r)) (total r) (λ k. not (wholeAt r k)) (v .within)
+    (λ k h. ap not (short-while-swapped r k (λ j upto. v .before j (omega arith))))
+    (λ k past h.
+    by-test (wholeAt r k) (λ whole. ap not whole)
+    (λ short.
+    absurd (never (short-only-there r k (λ j upto. complete j (omega arith)) short _ past) (v .stops (omega arith)))))
 
 -- A recording that begins swapped has a first packet that is short, however complete its reads are.
 pub begun-swapped : (r : Reading) → walkAt r 0 .swap ≡ true → wholeAt r 0 ≡ false

@@ -1,11 +1,11 @@
 -- Laws of how many of the first n are such.
 -- Assumes nothing.
-use Prim.Native.Nat.{ℕ, zero, suc, _+_, _<_}
+use Prim.Native.Nat.{ℕ, zero, suc, _+_, _≤_, _<_}
 use mathlib.Core.Path.{_≡_, refl}
 use mathlib.Core.Bool.{Bool, true, false, not}
 use native.Mathlib.Nat.{not-suc-le-zero}
 use native.Mathlib.Omega.{arith}
-use Rattle.tables.proofs.Cases.{by-equal, by-test}
+use Rattle.tables.proofs.Cases.{by-order, by-equal, by-test}
 use Rattle.tables.specs.Counting.{howMany}
 
 -- each of the first n is such or is not
@@ -47,6 +47,22 @@ none-counted (suc n) such none k h =
     by-test (such n)
     (λ last. absurd (omega (arith, rw last at none)))
     (λ last. by-equal k n (λ same. rw same last) (λ other. none-counted n such (omega (arith, rw last at none)) k (omega arith)))
+
+-- the first m of them are such, and no other
+pub first-such : (m n : ℕ) (such : ℕ → Bool) → m ≤ n → ((k : ℕ) → k < m → such k ≡ true) → ((k : ℕ) → m ≤ k → k < n → such k ≡ false)
+    → howMany n such ≡ m
+unfolding howMany
+first-such m zero such upto are are-not = omega arith
+first-such m (suc n) such upto are are-not =
+    by-order n m
+    (λ inside.
+    let before = first-such n n such (omega arith) (λ k h. are k (omega arith)) (λ k l h. absurd (omega arith)) in
+    let last : such n ≡ true = are n inside in
+    simp (before, last) (omega arith))
+    (λ past.
+    let before = first-such m n such past are (λ k l h. are-not k l (omega arith)) in
+    let last : such n ≡ false = are-not n past (omega arith) in
+    simp (before, last) (omega arith))
 
 -- one of the first n is such, and no other
 pub one-such : (n : ℕ) (such : ℕ → Bool) (j : ℕ) → j < n → such j ≡ true → ((k : ℕ) → (k ≡ j → ⊥) → such k ≡ false) → howMany n such ≡ 1

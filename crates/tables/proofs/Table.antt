@@ -46,6 +46,14 @@ pub table-sum-none : (f : ℕ → ℕ) → sum (table 0 f) ≡ 0
 unfolding table sum
 table-sum-none f = refl
 
+-- the sum of a table is that of its first m places and that of the n after them
+pub table-sum-parts : (m n : ℕ) (f : ℕ → ℕ) → sum (table (m + n) f) ≡ sum (table m f) + sum (table n (λ k. f (m + k)))
+table-sum-parts m zero f = let front : m + 0 ≡ m = omega arith in rw front (omega (arith, table-sum-none (λ k. f (m + k))))
+table-sum-parts m (suc n) f =
+    let number : m + suc n ≡ m + n + 1 = omega arith in
+    rw number
+    (rw (← add-one n) (omega (arith, table-sum-parts m n f, table-sum-more (m + n) f, table-sum-more n (λ k. f (m + k)))))
+
 -- one thing more
 pub sum-more : {A : Type 0} (number : A → ℕ) (xs : List A) (x : A) → sumOf number (xs ++ (x ∷ [])) ≡ sumOf number xs + number x
 unfolding sumOf

@@ -13,7 +13,7 @@ use Rattle.tables.specs.Table.{table, sum}
 use Rattle.tables.specs.Counting.{howMany}
 use Rattle.tables.proofs.Cases.{by-order, by-test, never, either-most}
 use Rattle.tables.proofs.Counting.{same-many, many-parts}
-use Rattle.tables.proofs.Table.{same-table, table-sum-none, table-sum-more}
+use Rattle.tables.proofs.Table.{same-table, table-sum-none, table-sum-more, table-sum-parts}
 use Rattle.packets.specs.Packet.{readSize, fileCount}
 use Rattle.packets.specs.Walk.{Walk, step, steps, reach, parity}
 use Rattle.packets.proofs.Reaches.{reach-most}
@@ -41,13 +41,6 @@ pub nothing-out : (reading : Reading) → total reading ≡ 0 → noneOut ≡ pa
 unfolding howMany
 nothing-out reading none =
     same-out noneOut (packetsOut reading) (sym none) (rw none) (rw none (sym (table-sum-none (fileCountAt reading))))
-
--- a table's sum is that of its first m and that of the n after them
-sum-parts : (m n : ℕ) (f : ℕ → ℕ) → sum (table (m + n) f) ≡ sum (table m f) + sum (table n (λ k. f (m + k)))
-sum-parts m zero f = let front : m + 0 ≡ m = omega arith in rw front (omega (arith, table-sum-none (λ k. f (m + k))))
-sum-parts m (suc n) f =
-    let number : m + suc n ≡ m + n + 1 = omega arith in
-    rw number (rw (← add-one n) (omega (arith, sum-parts m n f, table-sum-more (m + n) f, table-sum-more n (λ k. f (m + k)))))
 
 -- where m reads end within so many bytes and no more, a read before those ends within them, and one after past them
 ends-within : (swap : Bool) (m n left : ℕ) → reach swap m ≤ left → n < m → (reach swap (n + 1) ≤ left) × (0 < left)
@@ -212,7 +205,7 @@ module _ (s : ℕ → ℕ) (long : ℕ) (runs : List Run) (run : Run) where
         (rw all-packets
         (omega (arith, many-parts first (run .count) (λ k. not (wholeAt longer k)), shorts-before, short-upto)))
         (rw all-packets
-        (omega (arith, sum-parts first (run .count) (fileCountAt longer), bytes-before, bytes-upto (run .count) (omega arith))))
+        (omega (arith, table-sum-parts first (run .count) (fileCountAt longer), bytes-before, bytes-upto (run .count) (omega arith))))
       where
         shorts-before : howMany first (λ k. not (wholeAt longer k)) ≡ howMany first (λ k. not (wholeAt (by s long runs) k))
         shorts-before =

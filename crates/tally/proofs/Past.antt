@@ -1,6 +1,6 @@
 -- Whether what is carried past a run came from the file, by the last unswapped read in it; and so all that a run adds.
 -- Assumes nothing.
-use Prim.Native.Nat.{ℕ, zero, suc, _+_, _-_, _≤_, _<_}
+use Prim.Native.Nat.{ℕ, zero, suc, _+_, _*_, _-_, _≤_, _<_}
 use mathlib.Core.Path.{_≡_, refl, sym, ap, _∙_}
 use mathlib.Core.List.{List, [], _∷_, _++_}
 use mathlib.Core.Bool.{Bool, true, false, not, cond}
@@ -8,22 +8,25 @@ use native.Mathlib.Omega.{arith}
 use borrow.Author.Tests.{lt-ltb, le-ltb, eq-eqb, ne-eqb, not-true, not-false}
 use lib.Dec.{ltb}
 use Rattle.tables.proofs.Cases.{by-order, by-equal, by-test}
+use Rattle.tables.proofs.Tests.{same-tests}
 use Rattle.packets.specs.Packet.{readSize}
 use Rattle.packets.specs.Walk.{reach, parity}
+use Rattle.packets.proofs.Reaches.{reach-most}
 use Rattle.packets.proofs.Walk.{parity-flips, reach-more}
 use Rattle.sp.specs.declared.Run.{Run}
 use Rattle.sp.specs.Runs.{packetsIn}
 use Rattle.sp.specs.Readings.{walkAt}
 use Rattle.sp.specs.Whole.{sourcedAt}
 use Rattle.sp.proofs.Sourced.{sourced-anew, sourced-kept}
-use Rattle.tally.specs.Inner.{oursIn, uptoUnswapped, pastCut, pastComplete, addsComplete, addsCut, by, sourcedPast, Adds}
-use Rattle.tally.proofs.Packetwise.{longer, all-packets, sourced-before, begins, flagged, run-adds}
+use Rattle.tally.specs.declared.in_packets.Added.{Added}
+use Rattle.tally.specs.Inner.{uptoUnswapped, pastBy, addsBy, sourcedPast, Adds}
+use Rattle.tally.proofs.Packetwise.{ours-most, longer, all-packets, sourced-before, begins, flagged, run-adds}
 
--- two tests of which each holds if the other does
-same-tests : (a b c d : ℕ) → (a < b → c < d) → (c < d → a < b) → ltb a b ≡ ltb c d
-same-tests a b c d there back =
-    by-order a b (λ h. lt-ltb a b h ∙ sym (lt-ltb c d (there h)))
-    (λ h. le-ltb a b h ∙ sym (le-ltb c d (by-order c d (λ l. absurd (omega (arith, back l))) (λ l. l))))
+-- what adds the same three numbers and carries on alike is the same
+pub same-added : {many short short′ bytes bytes′ : ℕ} {sourced sourced′ : Bool} → short ≡ short′ → bytes ≡ bytes′ → sourced ≡ sourced′
+    → _≡_ {A = Added} (record { out = record { many = many; short = short; bytes = bytes }; sourced = sourced })
+    (record { out = record { many = many; short = short′; bytes = bytes′ }; sourced = sourced′ })
+same-added p q r = cc
 
 -- the reads up to the last unswapped one: none of no reads, and of some by the parity of the last
 upto-none : (swap : Bool) → uptoUnswapped swap 0 ≡ 0
@@ -58,6 +61,17 @@ upto-within swap count = by-test (parity swap count) (λ t. rw t (omega arith)) 
     less : (swap : Bool) → reach swap (count - 1) ≤ reach swap count
     less true = omega arith
     less false = omega arith
+
+-- if no fewer bytes are left than the reads take, an unswapped one is enough, and without one it is as before
+pub past-more : (swap : Bool) (count left : ℕ) (sourced : Bool) → cond swap 1 0 < count → reach swap count ≤ left
+    → true ≡ pastBy swap count left sourced
+past-more swap count left sourced more all =
+    let reads = uptoUnswapped swap count in
+    let some : reads ≡ 0 → ⊥ = λ none. omega (arith, upto-some swap count more) in
+    simp (ne-eqb reads 0 some) (sym (lt-ltb (reach swap reads) (left + 2) (omega (arith, upto-within swap count))))
+
+pub past-few : (swap : Bool) (count left : ℕ) (sourced : Bool) → count ≤ cond swap 1 0 → sourced ≡ pastBy swap count left sourced
+past-few swap count left sourced few = simp (eq-eqb (uptoUnswapped swap count) 0 (upto-few swap count few))
 
 module _ (s : ℕ → ℕ) (long : ℕ) (runs : List Run) (run : Run) where
   -- after an unswapped read: its byte 40 is the last but one
@@ -121,43 +135,31 @@ module _ (s : ℕ → ℕ) (long : ℕ) (runs : List Run) (run : Run) where
           (λ swapped. rw (upto-swapped (run .swap) n swapped) (last-swapped n count swapped))
           (λ plain. rw (upto-plain (run .swap) n plain) (last-plain n count plain))
 
-  -- with what was carried into it
-  module _ (sourced : Bool) (carried : sourced ≡ sourcedPast s long runs) where
-    past-cut : pastCut (run .swap) (run .count) (long - run .start .0) sourced ≡ sourcedPast s long (runs ++ (run ∷ []))
-    past-cut =
-        let reads = uptoUnswapped (run .swap) (run .count) in
-        by-equal reads 0
-        (λ none. simp (eq-eqb reads 0 none) (carried ∙ sym (past-by .0 none)))
-        (λ some. simp (ne-eqb reads 0 some) (sym (past-by .1 (omega arith))))
+  -- What a run adds of which so many reads are complete, by what was carried into it.
+  pub adds-by : (sourced : Bool) → sourced ≡ sourcedPast s long runs → (m : ℕ) → m ≤ run .count → reach (run .swap) m ≤ long - run .start .0
+      → (m < run .count → long - run .start .0 < reach (run .swap) (m + 1))
+      → Adds s long runs run (addsBy (run .swap) (run .count) m (long - run .start .0) sourced)
+  adds-by sourced carried m upto within past =
+      let reads = uptoUnswapped (run .swap) (run .count) in
+      record {
+        out-is = run-adds s long runs run m upto within past sourced carried _ refl refl refl;
+        sourced-is =
+            by-equal reads 0
+            (λ none. simp (eq-eqb reads 0 none) (carried ∙ sym (past-by .0 none)))
+            (λ some. simp (ne-eqb reads 0 some) (sym (past-by .1 (omega arith))));
+      }
 
-    past-complete : reach (run .swap) (run .count) ≤ long - run .start .0
-        → pastComplete (run .swap) (run .count) sourced ≡ sourcedPast s long (runs ++ (run ∷ []))
-    past-complete all =
-        let swap = run .swap in
-        let count = run .count in
-        by-order (cond swap 1 0) count
-        (λ more.
-        simp (lt-ltb (cond swap 1 0) count more)
-        (sym
-        (past-by .1 (upto-some swap count more)
-        ∙ lt-ltb (reach swap (uptoUnswapped swap count)) (long - run .start .0 + 2) (omega (arith, upto-within swap count)))))
-        (λ few. simp (le-ltb (cond swap 1 0) count few) (carried ∙ sym (past-by .0 (upto-few swap count few))))
-
-    -- What a run adds whose reads are all complete.
-    pub complete-adds : reach (run .swap) (run .count) ≤ long - run .start .0
-        → Adds s long runs run (addsComplete (run .swap) (run .count) (reach (run .swap) (run .count)) sourced)
-    complete-adds all =
-        record {
-          out-is = run-adds s long runs run (run .count) (omega arith) all (λ less. absurd (omega arith)) sourced carried _ refl (omega arith) (omega arith);
-          sourced-is = past-complete all;
-        }
-
-    -- What one adds of which so many are complete.
-    pub cut-adds : (m : ℕ) → m < run .count → reach (run .swap) m ≤ long - run .start .0 → long - run .start .0 < reach (run .swap) (m + 1)
-        → long - run .start .0 < reach (run .swap) (run .count)
-        → Adds s long runs run (addsCut (run .swap) (run .count) m (long - run .start .0) sourced)
-    cut-adds m less within past cut =
-        record {
-          out-is = run-adds s long runs run m (omega arith) within (λ h. past) sourced carried _ refl refl (omega arith);
-          sourced-is = past-cut;
-        }
+-- And it is no more than the run has.
+pub run-added : (run : Run) (long : ℕ) (sourced : Bool) (added : Added) (m : ℕ)
+    → added ≡ addsBy (run .swap) (run .count) m (long - run .start .0) sourced → m ≤ run .count → reach (run .swap) m ≤ long - run .start .0
+    → (m < run .count → long - run .start .0 < reach (run .swap) (m + 1))
+    → ((s : ℕ → ℕ) (runs : List Run) → sourced ≡ sourcedPast s long runs → Adds s long runs run added)
+    × ((added .out .many ≡ run .count) × (added .out .short ≤ run .count) × (added .out .bytes ≤ 42 * run .count))
+run-added run long sourced added m is upto within past = (
+  (λ s runs carried. rw is (adds-by s long runs run sourced carried m upto within past)),
+  rw is (
+    refl,
+    omega (arith, ours-most (run .swap) sourced m),
+    omega (arith, reach-most (run .swap) (run .count)),
+  ),
+)

@@ -26,7 +26,7 @@ use Rattle.sp.specs.ReadLists.{dssRuns, ds2Runs}
 use Rattle.sp.specs.Readings.{total, readingOf}
 use Rattle.sp.specs.Whole.{wholeAt}
 use Rattle.sp.proofs.ReadLists.{ds2-packets, dss-packets}
-use Rattle.sp.proofs.Whole.{begun-swapped}
+use Rattle.sp.proofs.Whole.{begun-swapped, short-leading}
 use Rattle.qp.specs.Segments.{segmentsFrom}
 use Rattle.qp.specs.Handed.{shortOf, missingFrom}
 use Rattle.qp.proofs.Kept.{totals-add-up, handed-or-missing}
@@ -107,6 +107,7 @@ module _ (f : List ℕ) (figures : Figures) (says : tallied f ≡ answers figure
                 (λ none.
                 absurd
                 (never (ap not (begun-swapped r swapped)) (none-counted (total r) (λ k. not (wholeAt r k)) (omega (arith, short)) 0 some)));
+            all-complete = λ complete. short ∙ short-leading r complete;
           }
 
   -- A QP recording hands out all frames that it announces, but for those that are missing from its segments, and short ones are those of its

@@ -6,6 +6,7 @@ use mathlib.Core.List.{List}
 use mathlib.Core.Bool.{true, not, cond}
 use lib.ListN.{length}
 use Rattle.tables.specs.Counting.{howMany}
+use Rattle.tables.specs.Leading.{leading}
 use Rattle.blocks.specs.Places.{wholeBlocks, streamAt}
 use Rattle.refusals.specs.Said.{Said, answers, onward}
 use Rattle.magic.specs.Magics.{namesDss}
@@ -14,7 +15,7 @@ use Rattle.detect.specs.Kinds.{formatType, kindOf}
 use Rattle.whole.specs.declared.Recording.{Recording}
 use Rattle.whole.specs.Admissions.{admission}
 use Rattle.sp.specs.declared.Run.{Run}
-use Rattle.sp.specs.Readings.{total, walkAt, readingOf, dssReading, ds2Reading}
+use Rattle.sp.specs.Readings.{total, walkAt, CompleteAt, readingOf, dssReading, ds2Reading}
 use Rattle.sp.specs.Whole.{wholeAt}
 use Rattle.qp.specs.Segments.{qpReading}
 use Rattle.qp7.specs.Walk.{qp7Reading}
@@ -44,9 +45,12 @@ wholeOut Ds2Qp7 f = onward (qp7Reading f) (λ g. answers (recordsOut (ds2Stream 
 abbrev pub talliedOut : List ℕ → Said HandedOut
 talliedOut f = onward (tallied f) (λ (figures : Figures). answers (figures .out))
 
--- so many are short of an SP recording that is read by these runs: the packets that are not whole, of which the first is one if it is swapped
+-- so many are short of an SP recording that is read by these runs: the packets that are not whole; of which the first is one if it is swapped, and
+-- which, where all reads are complete, are as many as are swapped before the first unswapped one
 pub record ShortAre (f : List ℕ) (runs : List ℕ → ℕ → ℕ → List Run) (short : ℕ) : Type 0 where
   pub rec : Recording
   pub taken : admission f (namesDss f) (not (namesDss f)) ≡ answers rec
   pub short-is : short ≡ howMany (total (readingOf f rec runs)) (λ k. not (wholeAt (readingOf f rec runs) k))
   pub begun-swapped : 0 < total (readingOf f rec runs) → walkAt (readingOf f rec runs) 0 .swap ≡ true → 0 < short
+  pub all-complete : ((k : ℕ) → k < total (readingOf f rec runs) → CompleteAt (readingOf f rec runs) k)
+      → short ≡ leading (λ k. walkAt (readingOf f rec runs) k .swap) (total (readingOf f rec runs))

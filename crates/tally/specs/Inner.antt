@@ -1,9 +1,9 @@
 -- What only contracts of inner functions speak of: what is handed out, added up, and the runs of a recording so far.
 -- Assumes nothing.
-use Prim.Native.Nat.{ℕ, _+_, _-_}
+use Prim.Native.Nat.{ℕ, _+_, _-_, min}
 use mathlib.Core.Path.{_≡_}
 use mathlib.Core.List.{List, [], _∷_, _++_}
-use mathlib.Core.Bool.{Bool, true, not, cond, _&&_}
+use mathlib.Core.Bool.{Bool, not, cond, _&&_}
 use lib.Dec.{eqb, ltb}
 use Rattle.packets.specs.Walk.{reach, parity}
 use Rattle.sp.specs.declared.Run.{Run}
@@ -25,31 +25,21 @@ together x y = record { many = x .many + y .many; short = x .short + y .short; b
 abbrev pub oursIn : Bool → Bool → ℕ → ℕ
 oursIn swap sourced complete = cond (ltb 0 complete) (cond (swap && not sourced) 1 0) 0
 
--- how many of so many reads there are up to the last unswapped one; whether what is carried past them came from the file, if so many bytes are
--- left for them, and if they are all complete
+-- how many of so many reads there are up to the last unswapped one; and whether what is carried past them came from the file, if so many bytes are
+-- left for them: byte 40 of that one is its last but one
 abbrev pub uptoUnswapped : Bool → ℕ → ℕ
 uptoUnswapped swap count = cond (parity swap count) count (count - 1)
 
-abbrev pub pastCut : Bool → ℕ → ℕ → Bool → Bool
-pastCut swap count left sourced =
+abbrev pub pastBy : Bool → ℕ → ℕ → Bool → Bool
+pastBy swap count left sourced =
     cond (eqb (uptoUnswapped swap count) 0) sourced (ltb (reach swap (uptoUnswapped swap count)) (left + 2))
 
-abbrev pub pastComplete : Bool → ℕ → Bool → Bool
-pastComplete swap count sourced = cond (ltb (cond swap 1 0) count) true sourced
-
--- what a run adds whose reads are all complete and end so many bytes on; and one of which so many are, and for which so many bytes are left
-abbrev pub addsComplete : Bool → ℕ → ℕ → Bool → Added
-addsComplete swap count end sourced =
+-- what a run adds of which so many reads are complete, and for which so many bytes are left
+abbrev pub addsBy : Bool → ℕ → ℕ → ℕ → Bool → Added
+addsBy swap count complete left sourced =
     record {
-      out = record { many = count; short = oursIn swap sourced count; bytes = end };
-      sourced = pastComplete swap count sourced;
-    }
-
-abbrev pub addsCut : Bool → ℕ → ℕ → ℕ → Bool → Added
-addsCut swap count complete left sourced =
-    record {
-      out = record { many = count; short = count - complete + oursIn swap sourced complete; bytes = left };
-      sourced = pastCut swap count left sourced;
+      out = record { many = count; short = count - complete + oursIn swap sourced complete; bytes = min (reach swap count) left };
+      sourced = pastBy swap count left sourced;
     }
 
 -- a reading by these runs

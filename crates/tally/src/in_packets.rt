@@ -15,7 +15,7 @@ ghost use Rattle.whole.specs.Admissions.{Sound, announcedBy};
 ghost use Rattle.sp.specs.ReadLists.{dssRuns, ds2Runs};
 ghost use Rattle.sp.specs.Readings.{readingOf};
 ghost use Rattle.tally.specs.HandedOut.{packetsOut};
-ghost use Rattle.tally.specs.Inner.{oursIn, uptoUnswapped, pastCut, pastComplete, addsComplete, addsCut, sourcedPast, Adds};
+ghost use Rattle.tally.specs.Inner.{oursIn, uptoUnswapped, pastBy, addsBy, sourcedPast, Adds};
 
 // What a run adds, and whether what is carried past it came from the file.
 struct Added {
@@ -51,7 +51,7 @@ fn upto_unswapped(swap: bool, count: usize) -> usize
 // but one of that read's bytes; and without such a read what was carried into the run.
 fn sourced_past(swap: bool, count: usize, left: usize, sourced: bool) -> bool
     requires { ⌜ (count ≤ 2 ^ 48) × (left ≤ 2 ^ 48) ⌝ }
-    ensures { λ r. ⌜ r ≡ pastCut swap count left sourced ⌝ }
+    ensures { λ r. ⌜ r ≡ pastBy swap count left sourced ⌝ }
 {
     let reads = upto_unswapped(swap, count);
     if reads == 0 {
@@ -60,9 +60,9 @@ fn sourced_past(swap: bool, count: usize, left: usize, sourced: bool) -> bool
     packets::reach(swap, reads) < left + 2
 }
 
-// The same if all its reads are complete: then an unswapped one, whichever, is enough. So it is of nearly every run.
+// The same if no fewer bytes are left than the reads take: then it is enough that one of them is unswapped.
 fn sourced_past_complete(swap: bool, count: usize, sourced: bool) -> bool
-    ensures { λ r. ⌜ r ≡ pastComplete swap count sourced ⌝ }
+    ensures { λ r. ⌜ ((left : ℕ) → reach swap count ≤ left → r ≡ pastBy swap count left sourced) ⌝ }
 {
     if packets::swap_bit(swap) < count {
         return true;
@@ -70,9 +70,10 @@ fn sourced_past_complete(swap: bool, count: usize, sourced: bool) -> bool
     sourced
 }
 
-// What a run adds to those before it whose reads are all complete and end so many bytes on.
+// What a run adds whose reads are all complete, as those of nearly every run are, and end so many bytes on.
 fn of_complete(swap: bool, count: usize, end: usize, sourced: bool) -> Added
-    ensures { λ r. ⌜ r ≡ addsComplete swap count end sourced ⌝ }
+    requires { ⌜ end ≡ reach swap count ⌝ }
+    ensures { λ r. ⌜ ((left : ℕ) → end ≤ left → r ≡ addsBy swap count count left sourced) ⌝ }
 {
     let short = ours_in(swap, sourced, count);
     let out = HandedOut {
@@ -84,10 +85,10 @@ fn of_complete(swap: bool, count: usize, end: usize, sourced: bool) -> Added
     Added { out, sourced }
 }
 
-// And one for which so many bytes are left, fewer than its reads take.
+// What a run adds for which so many bytes are left, fewer than its reads take: a division says how many are complete.
 fn of_cut(swap: bool, count: usize, left: usize, sourced: bool) -> Added
     requires { ⌜ (count ≤ 2 ^ 48) × (left ≤ 2 ^ 48) × (left < reach swap count) ⌝ }
-    ensures { λ r. ⌜ ((m : ℕ) × (m < count) × (reach swap m ≤ left) × (left < reach swap (m + 1)) × (r ≡ addsCut swap count m left sourced)) ⌝ }
+    ensures { λ r. ⌜ ((m : ℕ) × (m < count) × (reach swap m ≤ left) × (left < reach swap (m + 1)) × (r ≡ addsBy swap count m left sourced)) ⌝ }
 {
     let complete = packets::reads_within(swap, left);
     let ours = ours_in(swap, sourced, complete);

@@ -1,5 +1,5 @@
-// The tally of any file: what its whole reading would hand out, in numbers, with no packet, segment or record stored. Complete reads are
-// counted by a division, a block or a recording at a time. Rests on the whole readings and on all that they rest on.
+// The tally of any file: what its whole reading would hand out, in numbers, with no packet, segment or record stored. SP packets are
+// counted a run at a time, with no walk over them. Rests on the whole readings and on all that they rest on.
 use blocks::FilePlace;
 use detect::Kind;
 use refusals::Refusal;

@@ -2,6 +2,7 @@
 -- Assumes nothing.
 use native.Mathlib.Omega.{arith}
 use Rattle.tally.proofs.Packetwise.{fewer-reach}
+use Rattle.tally.proofs.Past.{same-added}
 use borrow.Author.Needs.{needs}
 use Rattle.tally.proofs.in_packets.of_cut.Statement.{statement}
 use Rattle.tally.proofs.in_packets.of_cut.Tie as tie
@@ -33,7 +34,7 @@ returns c =
       fewer-reach (a .swap) m (a .count) (omega arith),
       omega arith,
       omega arith,
-      rw (c .before .ours-in .ensures .0, c .sourced-past .ensures),
+      same-added (omega (arith, c .before .ours-in .ensures .0)) (omega arith) (c .sourced-past .ensures),
     )
 
 pub of-cut-spec : {M : Type 1} → statement M
