@@ -123,8 +123,8 @@ module _ (s : ℕ → ℕ) (long : ℕ) (runs : List Run) (run : Run) where
       rw (← add-one n)
       (omega (arith, table-sum-more n (λ k. fileCountAt longer (first + k)), bytes-upto n (omega arith), begins n h, ends n h))
 
-  -- and all of them are short but those whose reads end within the stream, of which there are m at the most; and the first of those if it is swapped
-  -- and nothing of the file is carried to it
+  -- and all are short but the first m, whose reads end within the stream; and of these the first, if it is swapped and nothing of the file is
+  -- carried to it
   module _ (m : ℕ) (upto : m ≤ run .count) (within : reach (run .swap) m ≤ long - run .start .0)
       (past : m < run .count → long - run .start .0 < reach (run .swap) (m + 1)) (sourced : Bool) (carried : sourced ≡ sourcedPast s long runs) where
     abbrev shortAt : ℕ → Bool

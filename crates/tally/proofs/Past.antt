@@ -5,11 +5,10 @@ use mathlib.Core.Path.{_≡_, refl, sym, ap, _∙_}
 use mathlib.Core.List.{List, [], _∷_, _++_}
 use mathlib.Core.Bool.{Bool, true, false, not, cond}
 use native.Mathlib.Omega.{arith}
-use borrow.Author.Tests.{lt-ltb, le-ltb, eq-eqb, ne-eqb, not-true, not-false}
+use borrow.Author.Tests.{lt-ltb, eq-eqb, ne-eqb, not-true}
 use lib.Dec.{ltb}
 use Rattle.tables.proofs.Cases.{by-order, by-equal, by-test}
 use Rattle.tables.proofs.Tests.{same-tests}
-use Rattle.packets.specs.Packet.{readSize}
 use Rattle.packets.specs.Walk.{reach, parity}
 use Rattle.packets.proofs.Reaches.{reach-most}
 use Rattle.packets.proofs.Walk.{parity-flips, reach-more}

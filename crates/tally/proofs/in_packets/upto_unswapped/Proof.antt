@@ -1,6 +1,6 @@
 -- `tally::in_packets::upto_unswapped` meets its contract: by the parity that the reads come to.
 -- Assumes nothing.
-use mathlib.Core.Path.{refl, sym, _∙_}
+use mathlib.Core.Path.{sym, _∙_}
 use borrow.Author.Needs.{needs}
 use Rattle.tally.proofs.in_packets.upto_unswapped.Statement.{statement}
 use Rattle.tally.proofs.in_packets.upto_unswapped.Tie as tie
