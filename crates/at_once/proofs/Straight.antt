@@ -6,12 +6,9 @@ use mathlib.Core.List.{List, []}
 use mathlib.Core.Bool.{Bool, true, false}
 use native.Mathlib.Omega.{arith}
 use borrow.Author.Tests.{eq-eqb, ne-eqb, lt-ltb, le-ltb}
-use lib.ListN.{getD}
 use Rattle.tables.specs.Table.{table}
 use Rattle.tables.proofs.Table.{same-table}
-use Rattle.blocks.specs.Places.{fileOf, streamAt}
 use Rattle.blocks.specs.Headers.{swapOf}
-use Rattle.blocks.proofs.Places.{stream-in, stream-past}
 use Rattle.refusals.specs.Said.{Said, answers, refuses, onward}
 use Rattle.detect.specs.declared.Kind.the-variants.{Sp}
 use Rattle.whole.specs.declared.Recording.{Recording}
@@ -43,14 +40,9 @@ pub carried-first : (s : ℕ → ℕ) (swap : Bool) (k : ℕ) → k ≡ 0 → 0 
 unfolding carriedTo
 carried-first s swap k none = rw (eq-eqb k 0 none)
 
-module _ (f : List ℕ) (a n : ℕ) (swap : Bool) (k q : ℕ) (some : k ≡ 0 → ⊥) (is : q ≡ carriedFrom swap k) where
-  pub carried-past : 506 * n ≤ q → 0 ≡ carriedTo (streamAt f a n) swap k
-  unfolding carriedTo
-  carried-past h = rw (ne-eqb k 0 some) (sym (ap (streamAt f a n) (sym is) ∙ stream-past f a n q h))
-
-  pub carried-in : {x : ℕ} → q < 506 * n → x ≡ getD f (fileOf a q) 0 → x ≡ carriedTo (streamAt f a n) swap k
-  unfolding carriedTo
-  carried-in h e = rw (ne-eqb k 0 some) (e ∙ sym (stream-in f a n q h) ∙ ap (streamAt f a n) is)
+pub carried-later : (s : ℕ → ℕ) (swap : Bool) (k : ℕ) {x q : ℕ} → (k ≡ 0 → ⊥) → q ≡ carriedFrom swap k → x ≡ s q → x ≡ carriedTo s swap k
+unfolding carriedTo
+carried-later s swap k some is e = rw (ne-eqb k 0 some) (e ∙ ap s is)
 
 module _ (s : ℕ → ℕ) (swap : Bool) where
   -- the walk from the start, and the one that stands at packet k

@@ -10,7 +10,6 @@ use lib.ListN.{getD}
 use Rattle.tables.specs.Settled.{SettledAs}
 use Rattle.tables.specs.Lent.{Leaves}
 use Rattle.tables.proofs.Cases.{by-order}
-use Rattle.tables.proofs.Lent.{leaves-at}
 use Rattle.refusals.specs.declared.Refusal.{Refusal}
 use Rattle.refusals.specs.Numbers.{numbered}
 use Rattle.refusals.specs.Said.{answers, refuses, refusal}
@@ -21,14 +20,13 @@ use Rattle.sp.specs.declared.Demuxed.{Demuxed}
 use Rattle.sp.specs.ReadLists.{ds2Runs}
 use Rattle.sp.specs.Readings.{Reading, total, packetAt, fileCountAt, readingOf, ds2Reading}
 use Rattle.sp.specs.Outcome.{roomIn, demuxedSays, Demuxes}
-use Rattle.sp.specs.Written.{Written}
 use Rattle.sp.proofs.ReadLists.{ds2-packets}
 use Rattle.sp.proofs.Outcome.{read-by, refused-before, Seen, only-outcome}
-use Rattle.sp.proofs.Theorems.{accepted-writes, packets-stand, ds2-announced}
+use Rattle.sp.proofs.Theorems.{ds2-announced}
 use Rattle.at_once.specs.Straight.{straight, packetReading}
 use Rattle.at_once.specs.Agreement.{saidAt, OnePacket}
 use Rattle.at_once.proofs.Straight.{is-one-packet, below-total, not-below}
-use Rattle.at_once.proofs.One.{one-said, one-left}
+use Rattle.at_once.proofs.One.{one-said, one-handed, one-of-whole}
 use Rattle.at_once.proofs.ds2_sp_packet.Kinds as packet
 use Rattle.at_once.proofs.ds2_sp_packet.Reads as packet-reads
 
@@ -88,26 +86,13 @@ module _ (f : List ℕ) (k : ℕ) where
     pub packet-handed : (n : ℕ) → demuxedSays answer ≡ answers n
         → (r : Reading) × (ds2Reading f ≡ answers r) × (k < total r) × (n ≡ 1) × Leaves out 0 42 (λ i. getD (packetAt r k) i 0) out′
         × Leaves counts 0 1 (λ i. fileCountAt r k) counts′
-    packet-handed n e =
-        let w = accepted-writes (packetReading f k) out out′ counts counts′ answer d n e in
-        let g = given-at-once (w .0) (w .1) in
-        let left = one-left (w .0) (g .0) k (g .2) out out′ counts counts′ (w .3) in
-        (g .0, g .1, g .2 .there, sym (w .2) ∙ g .2 .alone, left .0, left .1)
+    packet-handed = one-handed (packetReading f k) (ds2Reading f) k given-at-once out out′ counts counts′ answer d
 
     -- And where the whole call has answered too, for the same file, the packet and its count are those that it put under that number.
     pub same-as-whole : {o o′ c c′ : List ℕ} {whole : Demuxed} → Demuxes (ds2Reading f) o o′ c c′ whole → (m n : ℕ) → demuxedSays whole ≡ answers m
         → demuxedSays answer ≡ answers n
         → (k < m) × ((i : ℕ) → i < 42 → getD out′ i 0 ≡ getD o′ (42 * k + i) 0) × (getD counts′ 0 0 ≡ getD c′ k 0)
-    same-as-whole {o} {o′} {c} {c′} {whole} all m n says e =
-        let v = accepted-writes (ds2Reading f) o o′ c c′ whole all m says in
-        let p = packet-handed n e in
-        let read : Written (p .0) o o′ c c′ = for-the-answer (λ x. Written x o o′ c c′) (sym (v .1) ∙ p .1) (v .3) in
-        let many : total (p .0) ≡ m = for-the-answer (λ x. total x ≡ m) (sym (v .1) ∙ p .1) (v .2) in
-        let there = packets-stand (p .0) o o′ c c′ read k (p .2) in (
-          omega (arith, many, p .2),
-          (λ i h. leaves-at (p .4) i h ∙ sym (there .0 i h)),
-          leaves-at (p .5) 0 (omega arith) ∙ sym (there .1),
-        )
+    same-as-whole all m n says e = one-of-whole (packetReading f k) (ds2Reading f) k given-at-once out out′ counts counts′ answer d all m n says e
 
 -- Two outcomes of `ds2_sp_packet` that its contract allows for the same arguments are equal: answer, output and counts. The contract is the
 -- one in the source, as the check reads it.

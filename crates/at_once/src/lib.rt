@@ -1,7 +1,6 @@
 // A packet of a DS2 SP file straight from its number, its carried byte included, with no walk over those before it, into lent memory.
 // Rests on whole, which says whether the file is taken and what it announces, on packets, for where a read lies, on sp, which makes the read and
 // whose whole reading it agrees with, on refusals and blocks.
-use blocks::PAYLOAD;
 use blocks::StreamPlace;
 use detect::Kind;
 use refusals::Refusal;
@@ -31,10 +30,7 @@ fn carried_to(file: &[u8], recording: Recording, first: bool, number: usize) -> 
     let start = recording.start;
     let blocks = recording.blocks;
     let before = packets::reach(first, number) - 2;
-    if PAYLOAD * blocks <= before {
-        return 0;
-    }
-    blocks::stream_byte(file, start, StreamPlace(before))
+    blocks::byte_or_zero(file, start, blocks, StreamPlace(before))
 }
 
 // Hands out the packet of this number, which there is, and for which there is room: a run of one read.

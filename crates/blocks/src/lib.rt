@@ -3,7 +3,7 @@
 ghost use mathlib.Core.Path.{_≡_};
 ghost use Prim.Native.Nat.{_+_, _*_, _<_, _≤_, _^_};
 ghost use lib.ListN.{length, getD};
-ghost use Rattle.blocks.specs.Places.{wholeBlocks, Whole, fileOf, payloadOf};
+ghost use Rattle.blocks.specs.Places.{wholeBlocks, Whole, fileOf, streamAt, payloadOf};
 ghost use Rattle.blocks.specs.Headers.{headerByte, swapOf, countOf, announcedIn};
 
 pub const BLOCK: usize = 512;
@@ -89,6 +89,17 @@ pub fn stream_byte(file: &[u8], a: FilePlace, q: StreamPlace) -> u8
     let place = in_file(a, q);
     let at = place.0;
     file[at]
+}
+
+// The byte at a place of the payload stream of so many whole blocks, and 0 past its end.
+pub fn byte_or_zero(file: &[u8], a: FilePlace, blocks: usize, q: StreamPlace) -> u8
+    requires { ⌜ Whole (now file) (a .0) blocks ⌝ }
+    ensures { λ r. ⌜ r ≡ streamAt (now (file .entry)) (a .0) blocks (q .0) ⌝ }
+{
+    if PAYLOAD * blocks <= q.0 {
+        return 0;
+    }
+    stream_byte(file, a, q)
 }
 
 // The payload of a whole block, as those bytes of the file itself.

@@ -5,3 +5,4 @@ pub mod Packets
 pub mod Reaches
 pub mod Start
 pub mod Walk
+pub mod Unswapped

@@ -1,13 +1,13 @@
 -- What only contracts of inner functions speak of: how a packet is gathered, from bytes that lie together or across the seam between two
--- blocks, and the packets of a run joined. Assumes nothing.
-use Prim.Native.Nat.{ℕ, _+_, _<_, _/_, _%_}
+-- blocks, the packets of a run joined, and its reads up to the last unswapped one. Assumes nothing.
+use Prim.Native.Nat.{ℕ, _+_, _-_, _<_, _/_, _%_}
 use mathlib.Core.Path.{_≡_}
 use mathlib.Core.List.{List}
-use mathlib.Core.Bool.{true, cond}
+use mathlib.Core.Bool.{Bool, true, cond}
 use lib.ListN.{length, getD}
 use lib.Dec.{eqb}
 use Rattle.packets.specs.Packet.{packetByte}
-use Rattle.packets.specs.Walk.{Walk, steps, byteOf}
+use Rattle.packets.specs.Walk.{Walk, steps, byteOf, parity}
 
 -- a list as a function of its places
 abbrev pub bytesOf : List ℕ → ℕ → ℕ
@@ -38,3 +38,7 @@ pub record Window (s : ℕ → ℕ) (q : ℕ) (w : List ℕ) : Type 0 where
 -- byte j of the packets from w on, joined
 unfoldable pub joinedAt : (ℕ → ℕ) → Walk → ℕ → ℕ
 joinedAt s w j = byteOf s (steps s w (j / 42)) (j % 42)
+
+-- how many of k reads there are up to the last unswapped one: all, if the next is swapped, and else all but the last
+abbrev pub uptoUnswapped : Bool → ℕ → ℕ
+uptoUnswapped swap k = cond (parity swap k) k (k - 1)

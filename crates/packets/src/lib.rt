@@ -13,7 +13,7 @@ ghost use Rattle.blocks.specs.Places.{Whole, streamAt};
 ghost use Rattle.packets.specs.Packet.{readSize, packetByte, carryAfter, from, fileCount, IsPacket};
 ghost use Rattle.packets.specs.Start.{dssStart};
 ghost use Rattle.packets.specs.Walk.{reach, parity};
-ghost use Rattle.packets.specs.Inner.{bytesOf, Shifted, Blends, Blended, Window};
+ghost use Rattle.packets.specs.Inner.{bytesOf, Shifted, Blends, Blended, Window, uptoUnswapped};
 
 // The size of a packet.
 pub const PACKET: usize = 42;
@@ -65,6 +65,19 @@ pub fn parity(swap: bool, k: usize) -> bool
     ensures { λ r. ⌜ r ≡ parity swap k ⌝ }
 {
     if k % 2 == 0 { swap } else { !swap }
+}
+
+// How many of k reads there are up to the last unswapped one: all, if the next is swapped, and else all but the last.
+pub fn upto_unswapped(swap: bool, k: usize) -> usize
+    ensures { λ r. ⌜ r ≡ uptoUnswapped swap k ⌝ }
+{
+    if parity(swap, k) {
+        return k;
+    }
+    if k == 0 {
+        return 0;
+    }
+    k - 1
 }
 
 // How many reads end at or before m: a pair takes 82 bytes, and what is left of them is one read more or none.

@@ -57,14 +57,14 @@ is-ready f rec out counts needed readable is most h =
       counts-room = omega (arith, is);
     }
 
--- what was admitted: a refusal is passed on, and with a recording it goes on so
-module _ (said : Said Recording) (then : Recording → Said Reading) (out counts : List ℕ) where
+-- what was said first: a refusal is passed on, and with a recording, or another answer, it goes on so
+module _ {A : Type 0} (said : Said A) (then : A → Said Reading) (out counts : List ℕ) where
   pub not-taken : (why : Refusal) → refusal why ≡ said → Demuxes (onward said then) out out counts counts (Refused why)
   not-taken why e = rw (← e) (passed-on why out counts)
 
-  pub taken : (rec : Recording) (out′ counts′ : List ℕ) (answer : Demuxed) → answers rec ≡ said
-      → Demuxes (then rec) out out′ counts counts′ answer → Demuxes (onward said then) out out′ counts counts′ answer
-  taken rec out′ counts′ answer e d = rw (← e) d
+  pub taken : (a : A) (out′ counts′ : List ℕ) (answer : Demuxed) → answers a ≡ said → Demuxes (then a) out out′ counts counts′ answer
+      → Demuxes (onward said then) out out′ counts counts′ answer
+  taken a out′ counts′ answer e d = rw (← e) d
 
 -- a recording that was admitted can be read
 pub may-read : (f : List ℕ) (rec : Recording) → Sound f rec → Readable f rec

@@ -3,22 +3,24 @@
 use Prim.Native.Nat.{ℕ, zero, suc, _+_, _*_, _-_, _≤_, _<_}
 use mathlib.Core.Path.{_≡_, refl, sym, ap, _∙_}
 use mathlib.Core.List.{List, [], _∷_, _++_}
-use mathlib.Core.Bool.{Bool, true, false, not, cond}
+use mathlib.Core.Bool.{Bool, true, false, cond}
 use native.Mathlib.Omega.{arith}
 use borrow.Author.Tests.{lt-ltb, eq-eqb, ne-eqb, not-true}
 use lib.Dec.{ltb}
 use Rattle.tables.proofs.Cases.{by-order, by-equal, by-test}
 use Rattle.tables.proofs.Tests.{same-tests}
 use Rattle.packets.specs.Walk.{reach, parity}
+use Rattle.packets.specs.Inner.{uptoUnswapped}
 use Rattle.packets.proofs.Reaches.{reach-most}
 use Rattle.packets.proofs.Walk.{parity-flips, reach-more}
+use Rattle.packets.proofs.Unswapped.{upto-none, upto-plain, upto-swapped}
 use Rattle.sp.specs.declared.Run.{Run}
 use Rattle.sp.specs.Runs.{packetsIn}
 use Rattle.sp.specs.Readings.{walkAt}
 use Rattle.sp.specs.Whole.{sourcedAt}
 use Rattle.sp.proofs.Sourced.{sourced-anew, sourced-kept}
 use Rattle.tally.specs.declared.in_packets.Added.{Added}
-use Rattle.tally.specs.Inner.{uptoUnswapped, pastBy, addsBy, sourcedPast, Adds}
+use Rattle.tally.specs.Inner.{pastBy, addsBy, sourcedPast, Adds}
 use Rattle.tally.proofs.Packetwise.{ours-most, longer, all-packets, sourced-before, begins, flagged, run-adds}
 
 -- what adds the same three numbers and carries on alike is the same
@@ -26,19 +28,6 @@ pub same-added : {many short short′ bytes bytes′ : ℕ} {sourced sourced′ 
     → _≡_ {A = Added} (record { out = record { many = many; short = short; bytes = bytes }; sourced = sourced })
     (record { out = record { many = many; short = short′; bytes = bytes′ }; sourced = sourced′ })
 same-added p q r = cc
-
--- the reads up to the last unswapped one: none of no reads, and of some by the parity of the last
-upto-none : (swap : Bool) → uptoUnswapped swap 0 ≡ 0
-upto-none true = refl
-upto-none false = omega arith
-
-upto-plain : (swap : Bool) (n : ℕ) → parity swap n ≡ false → uptoUnswapped swap (suc n) ≡ suc n
-upto-plain swap n plain = let next : parity swap (suc n) ≡ true = parity-flips swap n ∙ ap not plain in rw next
-
-upto-swapped : (swap : Bool) (n : ℕ) → parity swap n ≡ true → uptoUnswapped swap (suc n) ≡ n
-upto-swapped swap n swapped =
-    let next : parity swap (suc n) ≡ false = parity-flips swap n ∙ ap not swapped in
-    rw next (omega arith)
 
 -- there are some if there is an unswapped one, be it the first or the second, and they do not go further than all
 upto-least : (swap : Bool) (count : ℕ) → count - 1 ≤ uptoUnswapped swap count

@@ -5,7 +5,8 @@ use mathlib.Core.Path.{_≡_}
 use mathlib.Core.List.{List, [], _∷_, _++_}
 use mathlib.Core.Bool.{Bool, not, cond, _&&_}
 use lib.Dec.{eqb, ltb}
-use Rattle.packets.specs.Walk.{reach, parity}
+use Rattle.packets.specs.Walk.{reach}
+use Rattle.packets.specs.Inner.{uptoUnswapped}
 use Rattle.sp.specs.declared.Run.{Run}
 use Rattle.sp.specs.Readings.{Reading, total}
 use Rattle.sp.specs.Whole.{sourcedAt}
@@ -25,11 +26,8 @@ together x y = record { many = x .many + y .many; short = x .short + y .short; b
 abbrev pub oursIn : Bool → Bool → ℕ → ℕ
 oursIn swap sourced complete = cond (ltb 0 complete) (cond (swap && not sourced) 1 0) 0
 
--- how many of so many reads there are up to the last unswapped one; and whether what is carried past them came from the file, if so many bytes are
--- left for them: byte 40 of that one is its last but one
-abbrev pub uptoUnswapped : Bool → ℕ → ℕ
-uptoUnswapped swap count = cond (parity swap count) count (count - 1)
-
+-- whether what is carried past so many reads came from the file, if so many bytes are left for them: byte 40 of the last unswapped one, which is its
+-- last but one
 abbrev pub pastBy : Bool → ℕ → ℕ → Bool → Bool
 pastBy swap count left sourced =
     cond (eqb (uptoUnswapped swap count) 0) sourced (ltb (reach swap (uptoUnswapped swap count)) (left + 2))

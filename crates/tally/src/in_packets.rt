@@ -15,7 +15,7 @@ ghost use Rattle.whole.specs.Admissions.{Sound, announcedBy};
 ghost use Rattle.sp.specs.ReadLists.{dssRuns, ds2Runs};
 ghost use Rattle.sp.specs.Readings.{readingOf};
 ghost use Rattle.tally.specs.HandedOut.{packetsOut};
-ghost use Rattle.tally.specs.Inner.{oursIn, uptoUnswapped, pastBy, addsBy, sourcedPast, Adds};
+ghost use Rattle.tally.specs.Inner.{oursIn, pastBy, addsBy, sourcedPast, Adds};
 
 // What a run adds, and whether what is carried past it came from the file.
 struct Added {
@@ -37,23 +37,13 @@ fn ours_in(swap: bool, sourced: bool, complete: usize) -> usize
     if swap { 1 } else { 0 }
 }
 
-// How many of so many reads there are up to the last unswapped one: all, if the next is swapped, and else all but the last.
-fn upto_unswapped(swap: bool, count: usize) -> usize
-    ensures { λ r. ⌜ r ≡ uptoUnswapped swap count ⌝ }
-{
-    if packets::parity(swap, count) {
-        return count;
-    }
-    crate::left_from(1, count)
-}
-
 // Whether what is carried past a run came from the file, if so many bytes are left for it: byte 40 of its last unswapped read, which is the last
 // but one of that read's bytes; and without such a read what was carried into the run.
 fn sourced_past(swap: bool, count: usize, left: usize, sourced: bool) -> bool
     requires { ⌜ (count ≤ 2 ^ 48) × (left ≤ 2 ^ 48) ⌝ }
     ensures { λ r. ⌜ r ≡ pastBy swap count left sourced ⌝ }
 {
-    let reads = upto_unswapped(swap, count);
+    let reads = packets::upto_unswapped(swap, count);
     if reads == 0 {
         return sourced;
     }

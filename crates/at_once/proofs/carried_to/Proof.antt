@@ -1,7 +1,7 @@
--- `at_once::carried_to` meets its contract: nothing for packet 0, and else a byte of the stream, which is 0 past its end.
+-- `at_once::carried_to` meets its contract: nothing for packet 0, and else a byte of the stream.
 -- Assumes nothing.
 use native.Mathlib.Omega.{arith}
-use Rattle.at_once.proofs.Straight.{two-before, carried-first, carried-past, carried-in}
+use Rattle.at_once.proofs.Straight.{two-before, carried-first, carried-later}
 use borrow.Author.Needs.{needs}
 use Rattle.at_once.proofs.carried_to.Statement.{statement}
 use Rattle.at_once.proofs.carried_to.Tie as tie
@@ -18,24 +18,14 @@ sub-before c =
     let a = t .before .before .args in
     omega (arith, c .reach .ensures, two-before (a .first) (a .number) (t .if1 .left))
 
-mul-if2 : tie.Need-mul-if2
-mul-if2 c = search needs
+byte-or-zero-requires : tie.Need-byte-or-zero-requires
+byte-or-zero-requires c κs = search needs
 
 returns-2 : tie.Need-returns-2
 returns-2 c =
     let r = c .before in
-    carried-past _ _ _ _ _ _ (r .before .before .if1 .left) (omega (arith, r .reach .ensures)) (c .if2 .taken)
-
-stream-byte-requires : tie.Need-stream-byte-requires
-stream-byte-requires c κs = search needs
-
-returns-3 : tie.Need-returns-3
-returns-3 c =
-    let t = c .before in
-    let r = t .before in
-    carried-in _ _ _ _ _ _ (r .before .before .if1 .left) (omega (arith, r .reach .ensures)) (t .if2 .left) (c .stream-byte .ensures)
+    carried-later _ _ _ (r .before .before .if1 .left) (omega (arith, r .reach .ensures)) (c .byte-or-zero .ensures)
 
 pub carried-to-spec : {M : Type 1} → statement M
 carried-to-spec =
-    tie.close
-    (tie.spec returns reach-requires sub-before mul-if2 returns-2 stream-byte-requires returns-3)
+    tie.close (tie.spec returns reach-requires sub-before byte-or-zero-requires returns-2)

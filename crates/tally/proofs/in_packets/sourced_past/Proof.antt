@@ -1,12 +1,11 @@
 -- `tally::in_packets::sourced_past` meets its contract: with no unswapped read in the run, and with one.
 -- Assumes nothing.
-use Prim.Native.Nat.{_-_}
 use mathlib.Core.Path.{_≡_, sym, ap, _∙_}
 use native.Mathlib.Omega.{arith}
 use borrow.Author.Tests.{eq-eqb, ne-eqb}
-use Rattle.tables.proofs.Cases.{either-most}
-use Rattle.packets.specs.Walk.{reach, parity}
-use Rattle.tally.specs.Inner.{uptoUnswapped}
+use Rattle.packets.specs.Walk.{reach}
+use Rattle.packets.specs.Inner.{uptoUnswapped}
+use Rattle.packets.proofs.Unswapped.{upto-most}
 use borrow.Author.Needs.{needs}
 use Rattle.tally.proofs.in_packets.sourced_past.Statement.{statement}
 use Rattle.tally.proofs.in_packets.sourced_past.Tie as tie
@@ -24,8 +23,7 @@ reach-requires : tie.Need-reach-requires
 reach-requires c κs =
     let u = c .before in
     let a = u .before .args in
-    let n = a .count in
-    rw (u .upto-unswapped .ensures) (either-most (parity (a .swap) n) {x = n} {y = n - 1} (omega arith) (omega arith))
+    omega (arith, u .upto-unswapped .ensures, upto-most (a .swap) (a .count))
 
 add-result : tie.Need-add-result
 add-result c = search needs
