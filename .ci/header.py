@@ -14,11 +14,13 @@ import sys
 
 SCALARS = {"u8": ("uint8_t", 1), "u32": ("uint32_t", 4), "u64": ("uint64_t", 8), "usize": ("size_t", 8)}
 RATTLE = "crates/klovdrun/src/lib.rt"
-STRUCTS = {"Reader": "crates/reader/src/lib.rt", "Answer": "crates/numbers/src/lib.rt", "Tallied": "crates/numbers/src/lib.rt", "Opened": RATTLE}
+STRUCTS = {"Reader": "crates/reader/src/lib.rt", "Answer": "crates/numbers/src/lib.rt", "Tallied": "crates/numbers/src/lib.rt",
+           "Entry": "crates/numbers/src/lib.rt", "Opened": RATTLE}
 CONSTANTS = {"LIMIT": "blocks::LIMIT", "PACKET": "packets::PACKET", "FRAME": "frames::FRAME", "PAYLOAD": "blocks::PAYLOAD",
-             "BLOCK": "blocks::BLOCK", "HOLD": "hold::HOLD", "QP_WORDS": "qp::ENTRY", "QP7_WORDS": "qp7::ENTRY"}
-IN_HEADER = ("LIMIT", "PACKET", "FRAME", "BLOCK", "PAYLOAD", "QP_WORDS", "QP7_WORDS")
-IN_RUST = ("LIMIT", "PACKET", "FRAME", "PAYLOAD", "BLOCK", "QP_WORDS", "QP7_WORDS")
+             "BLOCK": "blocks::BLOCK", "HOLD": "hold::HOLD", "QP_WORDS": "qp::ENTRY", "QP7_WORDS": "qp7::ENTRY",
+             "INDEX_FRONT": "index::FRONT", "INDEX_ENTRY": "entries::ENTRY"}
+IN_HEADER = ("LIMIT", "PACKET", "FRAME", "BLOCK", "PAYLOAD", "QP_WORDS", "QP7_WORDS", "INDEX_FRONT", "INDEX_ENTRY")
+IN_RUST = ("LIMIT", "PACKET", "FRAME", "PAYLOAD", "BLOCK", "QP_WORDS", "QP7_WORDS", "INDEX_FRONT", "INDEX_ENTRY")
 BESIDE = {2: "LIMIT", 7: "HOLD", 17: "LIMIT"}  # refusals whose number beside is a constant
 HELPS = {"host/c/intake.c": r'^static const char help\[\] =\n(.*?);\n\n',
          "host/examples/intake.rs": r'^const HELP: &str = "\\\n(.*?)^";$'}  # where the help of the intakes stands
@@ -134,7 +136,7 @@ def check_c(header):
         expected.append(f"KLOV_MUST_USE {c_type(result)} {name}({inside});")
     bare = re.sub(r"/\*.*?\*/|\bstatic inline .*?^}", "", header, flags=re.S | re.M)
     compare("header", expected, [squeeze(line) for line in re.findall(r"^\w[\w *]*\bklov_\w+\([^;]*\);", bare, re.M)])
-    for name in ("Answer", "Tallied", "Opened"):
+    for name in ("Answer", "Tallied", "Entry", "Opened"):
         expected = [f"{c_type(kind)} {field};" for field, kind in fields(name)]
         inside = re.search(r"typedef struct \{([^}]*)\} klov_" + name.lower() + ";", bare).group(1)
         compare("klov_" + name.lower(), expected, [squeeze(line) for line in inside.strip().splitlines()])
@@ -188,7 +190,7 @@ def check_rust(source, root):
     outside = re.search(r'extern "C" \{(.*?)\n\}', source, re.S).group(1)
     found = [squeeze(line).replace("( ", "(").replace(", )", ")") for line in re.findall(r"fn klov_\w+\(.*?;", outside, re.S)]
     compare("Rust", expected, found)
-    for name in ("Answer", "Tallied", "Opened"):
+    for name in ("Answer", "Tallied", "Entry", "Opened"):
         inside = re.search(r"#\[repr\(C\)\]\n(?:#\[.*\]\n)?(?:pub\(crate\) )?struct " + name + r" \{(.*?)\n\}", source, re.S).group(1)
         compare("Rust " + name, fields(name), re.findall(r"(\w+): (\w+),", inside))
 
@@ -254,7 +256,7 @@ def check_archive(archive):
 def check_compiled(path):
     """What a C compiler makes of the header: no warning, the structs' sizes and the reader's alignment. Any machine's compiler will do."""
     lines = [f'#include "{path}"']
-    for name in ("Answer", "Tallied", "Opened"):
+    for name in ("Answer", "Tallied", "Entry", "Opened"):
         lines.append(f'_Static_assert(sizeof(klov_{name.lower()}) == {layout(name)[0]}, "size");')
     size, align, _ = layout("Reader")
     lines.append(f'_Static_assert(sizeof(klov_reader) == {size} && _Alignof(klov_reader) == {align}, "reader");')

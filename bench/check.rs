@@ -1,7 +1,7 @@
 // Whether both sides do the same job: all that they hand out is compared, byte by byte. Nothing is measured here. It rests on the calls that
 // are measured.
 use crate::demux::ds2::DemuxedDs2;
-use crate::files::{file_place, Kind, Recording, BLOCK};
+use crate::files::{file_place, Kind, Recording, BLOCK, PAYLOAD};
 use crate::jobs::{Job, Way, Which, STEP};
 use crate::original;
 use ours::{Room, QP7_WORDS, QP_WORDS};
@@ -14,6 +14,10 @@ pub fn agree(job: Job, recording: &Recording) -> bool {
         (Way::Write, _) => written(job, recording),
         (Way::At(which), _) => at_once(job, which, recording),
         (Way::To(which), _) => walked(job, which, recording),
+        (Way::Build, _) => built(job, recording),
+        (Way::Read, _) => ours::read_index(&recording.file, &job.room(recording)) == (entries(job, recording).len(), recording.units),
+        (Way::Find(which), _) => found(job, which, recording),
+        (Way::By(which), _) => by_index(job, which, recording),
         (Way::Whole, Kind::Qp) => qp(job, recording),
         (Way::Whole, Kind::Qp7) => qp7(job, recording),
         (Way::Whole, _) => packets(job, recording),
@@ -22,7 +26,7 @@ pub fn agree(job: Job, recording: &Recording) -> bool {
 
 /// The original's packets, joined.
 fn original_packets(kind: Kind, file: &[u8]) -> Vec<u8> {
-    if kind == Kind::Dss {
+    if kind.is_dss() {
         return original::dss(file).concat();
     }
     match original::ds2(file) {
@@ -57,6 +61,42 @@ fn at_once(job: Job, which: Which, recording: &Recording) -> bool {
     job.by_ours(recording, &mut room) == 1
         && room.out == packet(&original_packets(job.kind, &recording.file), number)
         && usize::from(room.counts[0]) == 42 - 2 * (number % 2)
+}
+
+/// Of each block its number, that of its first packet, and where that is read: every block announces something.
+fn entries(job: Job, recording: &Recording) -> Vec<[usize; 3]> {
+    let mut packets = 0;
+    let blocks = recording.file[job.kind.start()..].chunks_exact(BLOCK).enumerate();
+    let entries = blocks.map(|(number, block)| {
+        let first = packets;
+        packets += usize::from(block[2]);
+        [number, first, PAYLOAD * number + 2 * usize::from(block[1]) + 2 * usize::from(block[0] >> 7) - 6]
+    });
+    entries.collect()
+}
+
+/// The index has the blocks' entries, after its length and its version.
+fn built(job: Job, recording: &Recording) -> bool {
+    let (entries, mut room) = (entries(job, recording), job.room(recording));
+    let words = entries.iter().flatten().flat_map(|&number| (number as u32).to_be_bytes());
+    let version = ((1 + 12 * entries.len()) as u32).to_be_bytes().into_iter().chain([1]);
+    job.by_ours(recording, &mut room) == entries.len() && version.chain(words).eq(room.index)
+}
+
+/// The entry is the last whose first packet is not behind the one that is looked for.
+fn found(job: Job, which: Which, recording: &Recording) -> bool {
+    let number = which.number(recording);
+    let entry = entries(job, recording).into_iter().filter(|[_, first, _]| *first <= number).last();
+    entry == Some(ours::find_entry(&recording.file, number, &job.room(recording)))
+}
+
+/// The packet is the original's of that number, in its whole reading, with all the bytes of its read.
+fn by_index(job: Job, which: Which, recording: &Recording) -> bool {
+    let (number, mut room) = (which.number(recording), job.room(recording));
+    let is_swapped = if job.kind == Kind::DssOne { number > 0 } else { number % 2 == 1 };
+    job.by_ours(recording, &mut room) == 1
+        && room.out == packet(&original_packets(job.kind, &recording.file), number)
+        && room.counts[0] == if is_swapped { 40 } else { 42 }
 }
 
 /// Both walks come to the packet that the original's whole reading has.

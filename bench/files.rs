@@ -1,5 +1,5 @@
-// The recordings that are measured, the same at every run: without a gap, but for DSS, whose packets stay inside their block. It rests on the
-// format's description (docs/FORMAT.md). The last block announces only what is complete.
+// The recordings that are measured, the same at every run: without a gap, but for two of DSS, whose packets stay inside their block. It rests on
+// the format's description (docs/FORMAT.md). The last block announces only what is complete.
 
 pub const BLOCK: usize = 512;
 pub const PAYLOAD: usize = 506;
@@ -8,6 +8,10 @@ pub const PAYLOAD: usize = 506;
 pub enum Kind {
     Ds2,
     Dss,
+    /// DSS without a gap.
+    DssOn,
+    /// DSS with one packet a block, swapped but for the first.
+    DssOne,
     Qp,
     Qp7,
 }
@@ -19,17 +23,27 @@ pub struct Recording {
 }
 
 impl Kind {
+    pub fn is_dss(self) -> bool {
+        matches!(self, Kind::Dss | Kind::DssOn | Kind::DssOne)
+    }
+
     /// The kind of reader in pieces; a DSS recording has first byte 2.
     pub fn reader(self) -> u64 {
-        if self == Kind::Dss { 2 } else { 0 }
+        if self.is_dss() { 2 } else { 0 }
     }
 
     pub fn start(self) -> usize {
-        if self == Kind::Dss { 1024 } else { 1536 }
+        if self.is_dss() { 1024 } else { 1536 }
     }
 
     fn magic(self) -> &'static [u8; 4] {
-        if self == Kind::Dss { b"\x02dss" } else { b"\x03ds2" }
+        if self.is_dss() { b"\x02dss" } else { b"\x03ds2" }
+    }
+}
+
+impl Recording {
+    pub fn blocks(&self, kind: Kind) -> usize {
+        (self.file.len() - kind.start()) / BLOCK
     }
 }
 
@@ -41,8 +55,9 @@ pub fn make(kind: Kind, size: usize) -> Recording {
     file[..start].fill(0);
     file[..4].copy_from_slice(kind.magic());
     let units = match kind {
-        Kind::Ds2 => lay(&mut file, start, 0, |_, k| 42 - 2 * (k % 2)),
+        Kind::Ds2 | Kind::DssOn => lay(&mut file, start, 0, |_, k| 42 - 2 * (k % 2)),
         Kind::Dss => lay_dss(&mut file, start),
+        Kind::DssOne => lay_one(&mut file, start),
         Kind::Qp => {
             lay(&mut file, start, 6, |_, _| 56);
             blocks
@@ -103,4 +118,14 @@ fn lay_dss(file: &mut [u8], start: usize) -> usize {
         file[start + BLOCK * block..][..6].copy_from_slice(&[0x0F, 3, 12, 0xFF, 0, 0xFF]);
     }
     12 * blocks
+}
+
+/// Writes the headers of blocks that each have one packet, which is swapped but in the first block: to all of them the same byte is carried.
+fn lay_one(file: &mut [u8], start: usize) -> usize {
+    let blocks = (file.len() - start) / BLOCK;
+    for block in 0..blocks {
+        let flags = if block == 0 { 0x0F } else { 0x8F };
+        file[start + BLOCK * block..][..6].copy_from_slice(&[flags, 3, 1, 0xFF, 0, 0xFF]);
+    }
+    blocks
 }

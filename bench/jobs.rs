@@ -1,5 +1,5 @@
-// What is measured: a recording of some kind, read whole, in pieces, or tallied, by either side, or written anew from its packets; and one packet
-// of it, at once or by a walk to it. It rests on the crate `ours` and on the module `original`.
+// What is measured: a recording of some kind, read whole, in pieces, or tallied, by either side, or written anew from its packets; one packet of it,
+// at once or by a walk to it; and its index, with what is found by it. It rests on the crate `ours` and on the module `original`.
 use crate::files::{Kind, Recording};
 use crate::original;
 use ours::{Room, QP7_WORDS, QP_WORDS};
@@ -15,6 +15,10 @@ pub enum Way {
     Write,
     At(Which),
     To(Which),
+    Build,
+    Read,
+    Find(Which),
+    By(Which),
 }
 
 /// Which packet of a recording.
@@ -52,12 +56,15 @@ pub struct Job {
 
 impl Job {
     /// `ds2`, `dss`, `qp`, `qp7`; with `-512` or another number behind it in pieces of so many bytes, with `-tally` tallied. `ds2-write` is
-    /// written. `ds2-at-0`, `ds2-at-middle` and `ds2-at-last` are one packet at once, and with `to` in place of `at` the walk to it.
+    /// written. `ds2-at-0`, `ds2-at-middle` and `ds2-at-last` are one packet at once, and with `to` in place of `at` the walk to it. `dss`, `dsson`
+    /// or `dss1` with `-build` is its index, with `-read` that read; with `-find-last` the entry of the last packet, with `-by-last` that packet.
     pub fn named(name: &str) -> Option<Job> {
         let (kind, way) = name.split_once('-').unwrap_or((name, ""));
         let kind = match kind {
             "ds2" => Kind::Ds2,
             "dss" => Kind::Dss,
+            "dsson" => Kind::DssOn,
+            "dss1" => Kind::DssOne,
             "qp" => Kind::Qp,
             "qp7" => Kind::Qp7,
             _ => return None,
@@ -68,12 +75,16 @@ impl Job {
             ("write", "") if kind == Kind::Ds2 => Way::Write,
             ("at", which) if kind == Kind::Ds2 => Way::At(Which::named(which)?),
             ("to", which) if kind == Kind::Ds2 => Way::To(Which::named(which)?),
+            ("build", "") if kind.is_dss() => Way::Build,
+            ("read", "") if kind.is_dss() => Way::Read,
+            ("find", which) if kind.is_dss() => Way::Find(Which::named(which)?),
+            ("by", which) if kind.is_dss() => Way::By(Which::named(which)?),
             _ => Way::Pieces(way.parse().ok()?),
         };
         Some(Job { kind, way })
     }
 
-    /// The memory that this side is lent for a recording; for writing, with the packets to be written.
+    /// The memory that this side is lent for a recording; for writing, with the packets to be written, and for what takes an index with that.
     pub fn room(self, recording: &Recording) -> Room {
         match (self.way, self.kind) {
             (Way::Tally, _) => Room::for_packets(0),
@@ -87,6 +98,12 @@ impl Job {
             (Way::Pieces(bytes), _) => Room::for_piece(bytes),
             (Way::At(_), _) => Room::for_packets(1),
             (Way::To(_), _) => Room::for_piece(STEP),
+            (Way::Build, kind) => Room::for_index(recording.blocks(kind)),
+            (Way::Read | Way::Find(_) | Way::By(_), kind) => {
+                let mut room = Room::for_index(recording.blocks(kind));
+                ours::build_index(&recording.file, &mut room);
+                room
+            }
             (Way::Whole, Kind::Qp) => Room::for_words(QP_WORDS * recording.units, 0),
             (Way::Whole, Kind::Qp7) => Room::for_words(recording.units, QP7_WORDS * recording.units),
             (Way::Whole, _) => Room::for_packets(recording.units),
@@ -102,21 +119,26 @@ impl Job {
             (Way::Pieces(bytes), kind) => ours::pieces(kind.reader(), file, bytes, room, |_| ()),
             (Way::At(which), _) => ours::ds2_sp_packet(file, which.number(recording), room),
             (Way::To(which), kind) => ours::walk(kind.reader(), file, STEP, which.number(recording), room, |_| ()),
+            (Way::Build, _) => ours::build_index(file, room),
+            (Way::Read, _) => ours::read_index(file, room).0,
+            (Way::Find(which), _) => [ours::find_entry(file, which.number(recording), room)].len(),
+            (Way::By(which), _) => ours::dss_packet(file, which.number(recording), room),
             (Way::Whole, Kind::Ds2) => ours::ds2_sp(file, room),
-            (Way::Whole, Kind::Dss) => ours::dss(file, room),
+            (Way::Whole, Kind::Dss | Kind::DssOn | Kind::DssOne) => ours::dss(file, room),
             (Way::Whole, Kind::Qp) => ours::ds2_qp(file, room),
             (Way::Whole, Kind::Qp7) => ours::ds2_qp7(file, room).0,
         }
     }
 
     /// Does the job by the original. It has no tally: who wants the numbers reads the whole. It hands out no packet by its number: who wants it
-    /// walks there. It writes nothing: there a copy of the packets stands in its place.
+    /// walks there. It writes nothing and has no index: there a copy of the packets, or of the index, stands in its place.
     pub fn by_original(self, recording: &Recording, room: &mut Room) -> usize {
         let file = &recording.file[..];
         match self.way {
             Way::Write => copied(&room.out, &mut room.file),
             Way::Pieces(bytes) => original::pieces(self.kind, file, bytes, |_| ()),
             Way::At(which) | Way::To(which) => original::walk(file, STEP, which.number(recording), |_| ()),
+            Way::Build | Way::Read | Way::Find(_) | Way::By(_) => copied(&room.index, &mut room.file),
             Way::Whole | Way::Tally => original::whole(self.kind, file),
         }
     }

@@ -6,7 +6,7 @@ use crate::files::Kind;
 
 /// How many packets, segments' frames or records the whole reading hands out.
 pub fn whole(kind: Kind, file: &[u8]) -> usize {
-    if kind == Kind::Dss {
+    if kind.is_dss() {
         return dss(file).len();
     }
     match ds2(file) {
@@ -26,7 +26,7 @@ pub fn ds2(file: &[u8]) -> DemuxedDs2 {
 
 /// Feeds one stream demuxer, ends it strictly, and answers how many packets came out. What each piece brought is shown.
 pub fn pieces(kind: Kind, file: &[u8], bytes: usize, show: impl FnMut(&[Vec<u8>])) -> usize {
-    if kind == Kind::Dss {
+    if kind.is_dss() {
         let mut demuxer = DssSpStreamDemuxer::new(file[0]);
         let sum = fed(file, bytes, usize::MAX, |piece| demuxer.push(piece).expect("a piece"), show);
         return sum + demuxer.finish().expect("a complete recording").len();

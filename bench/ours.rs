@@ -11,13 +11,17 @@ mod error;
 mod raw;
 
 const PACKET: usize = 42;
+/// Bytes of an index before its entries, and of an entry.
+const FRONT: usize = 5;
+const ENTRY: usize = 12;
 /// Words of a segment's entry, in a table of QP and in one of QP7.
 pub const QP_WORDS: usize = 4;
 pub const QP7_WORDS: usize = 3;
 /// A block announces at most 13 packets in the recordings that are measured, and a piece completes at most one block more than it has.
 const PACKETS_A_BLOCK: usize = 13;
 
-/// What is lent: packets and their counts, or two tables of words; for writing a file, its packets being in `out`.
+/// What is lent: packets and their counts, or two tables of words; for writing a file, its packets being in `out`; and an index, whose copy fits in
+/// `file`.
 #[derive(Default)]
 pub struct Room {
     pub out: Vec<u8>,
@@ -25,6 +29,7 @@ pub struct Room {
     pub first: Vec<u32>,
     pub second: Vec<u32>,
     pub file: Vec<u8>,
+    pub index: Vec<u8>,
 }
 
 impl Room {
@@ -38,6 +43,12 @@ impl Room {
 
     pub fn for_words(first: usize, second: usize) -> Room {
         Room { first: vec![0; first], second: vec![0; second], ..Room::default() }
+    }
+
+    /// An index with so many entries, and one packet.
+    pub fn for_index(entries: usize) -> Room {
+        let bytes = FRONT + ENTRY * entries;
+        Room { index: vec![0; bytes], file: vec![0; bytes], ..Room::for_packets(1) }
     }
 }
 
@@ -69,6 +80,27 @@ pub fn ds2_qp7(file: &[u8], room: &mut Room) -> (usize, usize) {
 /// How many bytes the file has that is written.
 pub fn write_ds2_sp(header: &[u8], room: &mut Room) -> usize {
     raw::write_ds2_sp(header, &room.out, &mut room.file).expect("packets that can be written")
+}
+
+/// How many entries the index has.
+pub fn build_index(file: &[u8], room: &mut Room) -> usize {
+    raw::build_index(file, &mut room.index).expect("a DSS recording").1
+}
+
+/// How many entries the index has, and how many packets the recording.
+pub fn read_index(file: &[u8], room: &Room) -> (usize, usize) {
+    raw::read_index(file, &room.index).expect("a DSS recording's index")
+}
+
+/// The entry for a packet: the block that announces it, that one's first packet, and its place.
+pub fn find_entry(file: &[u8], packet: usize, room: &Room) -> [usize; 3] {
+    let found = raw::find_entry(file, &room.index, packet).expect("a packet of a DSS recording");
+    [found.number, found.first, found.place].map(|number| number as usize)
+}
+
+/// One packet, by the index and its number: how many are handed out.
+pub fn dss_packet(file: &[u8], packet: usize, room: &mut Room) -> usize {
+    raw::dss_packet(file, &room.index, packet, &mut room.out, &mut room.counts).expect("a packet of a DSS recording")
 }
 
 /// Packets handed out, how many of them are short, and frames announced.

@@ -1,6 +1,6 @@
-"""Measures every job of target/bench/bench by both sides, and prints two tables: x86-64 instructions for each unit, and those of the ways to one
-packet; and time where the machine is x86-64. Arguments: quick, check, write; bench/run says what they do. Rests on what bench/build built, and on
-bench/targets.txt."""
+"""Measures every job of target/bench/bench by both sides, and prints three tables: x86-64 instructions for each unit, those of the ways to one
+packet, and those of an index for each block; and time where the machine is x86-64. Arguments: quick, check, write; bench/run says what they do. Rests
+on what bench/build built, and on bench/targets.txt."""
 import datetime
 import os
 import platform
@@ -35,18 +35,31 @@ ROWS = [
 PACKETS = [("0", "0"), ("middle", "the middle one"), ("last", "the last one")]
 # a way to it: the beginning of the job's name, the side, and what it is
 WAYS = [("ds2-at-", "ours", "ours at once"), ("ds2-to-", "ours", "ours walking"), ("ds2-to-", "rust", "the Rust walking")]
+# an index beside DSS: the end of its jobs' names, what is done, and with which recordings, by the beginning of the names
+INDEXES = [
+    ("-build", "building", ["dss"]),
+    ("-read", "reading", ["dss"]),
+    ("-find-last", "finding the last packet's entry", ["dss"]),
+    ("-by-last", "the last packet by it", ["dss", "dsson", "dss1"]),
+]
+DSS = {"dss": "12 packets a block", "dsson": "without a gap", "dss1": "one packet a block"}
 RECORDINGS = """\
 The recordings, each with payload bytes that look random, and a last block that announces only what is complete, so that nothing is short:
 
 - DS2 SP: packets without a gap, reads of 42 and 40 bytes in turn; a block announces those whose first byte it has, 12 or 13.
 - DSS: in each block 12 packets, 492 bytes from its payload's start on, the first of them unswapped. There the Rust's stream demuxer reads
   what its whole reading does.
+- DSS for an index, too: without a gap, as DS2 SP; and with one packet a block, each swapped but the first, whose byte is carried to all of them.
 - QP: frames of 56 bytes without a gap, one segment; a block announces those whose first byte it has, 9 or 10.
 - QP7: records of 12 and of 56 bytes, as the payload's bytes have it, about as many of each, without a gap, one segment.
 - Writing: the packets of the DS2 SP recording, joined, under its header.
 """
 WRITING = "The Rust writes no files: beside writing stands a copy of the packets' bytes, without a ratio, and the target is in instructions of ours."
 SOUGHT = "One packet of a DS2 SP recording, at once by its number, or by a walk to it from the start: instructions in all, by the recording's size.\n"
+INDEXED = """\
+An index beside a DSS recording. The Rust has none: these are instructions of ours alone, for each block of the recording, by its size, and what a
+call takes besides, whatever the size is. A call that takes an index holds all of it to the recording first.
+"""
 NATIVE = platform.machine() == "x86_64"
 
 
@@ -164,9 +177,9 @@ def table(quick, counts):
     return grid(rows), missed, spent
 
 
-def blocks(size):
-    """Of a DS2 SP recording whose size is a multiple of a block's: its header is as long as three."""
-    return size // 512 - 3
+def blocks(size, header):
+    """Of a recording whose size is a multiple of a block's, by how many blocks its header is as long as."""
+    return size // 512 - header
 
 
 def ways_compared(end, size):
@@ -204,11 +217,48 @@ def ways(quick, counts):
         if counts:
             found = [ways_counted(end, at) for at in sizes]
             cells += [figure(count) for way in zip(*found) for count in way]
-            last = [count[0] / blocks(at) for count, at in zip(found, sizes)]
+            last = [count[0] / blocks(at, 3) for count, at in zip(found, sizes)]
         cells += map(figure, ways_timed(end)) if timing else []
         rows.append(cells)
     told = ["\n", "At once, the last one takes %s instructions for each block.\n" % ", ".join(map(figure, last))] if counts else []
     return ["\n", SOUGHT, "\n"] + grid(rows) + told, {"ds2-at-last": last[0]} if counts else {}
+
+
+def index_counted(job, sizes):
+    """Instructions of ours for each block, at each size; and, where there are two sizes, those besides, by the first and the last."""
+    for size in sizes:
+        units(job, size)
+    spent, many = [instructions(job, size, "ours") for size in sizes], [blocks(size, 2) for size in sizes]
+    each = [count / of_blocks for count, of_blocks in zip(spent, many)]
+    return each + [spent[0] - many[0] * (spent[-1] - spent[0]) / (many[-1] - many[0])] if len(sizes) > 1 else each
+
+
+def index_timed(job):
+    """Microseconds of ours."""
+    units(job, TIMED)
+    return int(driver(job, TIMED, "time", REPETITIONS).split()[0]) / 1000
+
+
+def index_heads(sizes, counts, timing):
+    cells = ["index", "recording"]
+    cells += ["for each block, %d MiB" % (at // MIB) for at in sizes] if counts else []
+    cells += ["besides"] if counts and len(sizes) > 1 else []
+    return cells + (["%d MiB, microseconds" % (TIMED // MIB)] if timing else [])
+
+
+def indexes(quick, counts):
+    """The lines of the table of an index, and of each of its jobs the instructions for each block, at the first size."""
+    sizes, timing, spent = [QUICK] if quick else SIZES, NATIVE and not quick, {}
+    rows = [index_heads(sizes, counts, timing)]
+    for job, what, recording in [(begin + end, what, DSS[begin]) for end, what, beginnings in INDEXES for begin in beginnings]:
+        cells = [what, recording]
+        if counts:
+            figures = index_counted(job, sizes)
+            spent[job] = figures[0]
+            cells += map(figure, figures)
+        cells += [figure(index_timed(job))] if timing else []
+        rows.append(cells)
+    return ["\n", INDEXED, "\n"] + grid(rows), spent
 
 
 def processor():
@@ -255,9 +305,11 @@ def write(lines):
 def main(words):
     quick, counts = "quick" in words, os.path.exists(PLUGIN)
     lines, missed, spent = table(quick, counts)
-    more, of_call = ways(quick, counts)
-    spent.update(of_call)
-    lines = [machine(counts), "\n"] + lines + notes(quick, counts, missed) + more
+    lines = [machine(counts), "\n"] + lines + notes(quick, counts, missed)
+    for further in (ways, indexes):
+        more, of_calls = further(quick, counts)
+        spent.update(of_calls)
+        lines += more
     sys.stdout.write("".join(lines))
     if "write" in words:
         write(lines)

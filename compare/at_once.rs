@@ -16,7 +16,7 @@ fn ask(file: &[u8], number: usize, room: (usize, usize)) -> Seen {
 }
 
 /// The numbers of packets that are asked for.
-fn numbers(packets: usize, dice: &mut Dice) -> Vec<usize> {
+pub fn numbers(packets: usize, dice: &mut Dice) -> Vec<usize> {
     if packets <= FEW {
         return (0..packets).collect();
     }

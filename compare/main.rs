@@ -19,6 +19,7 @@ mod ends;
 mod error;
 mod faults;
 mod fixed;
+mod indexed;
 mod lent;
 mod limits;
 mod numbers;

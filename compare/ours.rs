@@ -1,6 +1,6 @@
 // The archive's calls over slices, each answer with all its numbers, those of a refused call too. It rests on the declarations in
 // host/src/raw.rs; all unsafe code of the program is here. A slice is never null, and two of which one is written share no byte.
-use crate::common::model::Refused;
+use crate::common::model::{Entry, Refused};
 use crate::raw;
 use std::mem::size_of;
 
@@ -8,6 +8,8 @@ use std::mem::size_of;
 pub type Numbers = [u64; 6];
 /// Refusal, the number beside it, kind, start, blocks, announced, handed out, short, bytes, size, absent.
 pub type Tally = [u64; 11];
+/// Refusal, the number beside it, block, its first packet, its place, size, absent.
+pub type Found = [u64; 7];
 
 fn numbers(answer: raw::Answer) -> Numbers {
     let raw::Answer { refusal, beside, first, second, size, absent } = answer;
@@ -37,6 +39,16 @@ pub fn tallied([kind, start, blocks, announced, handed, short, bytes]: [u64; 7])
 /// The tally of one that is.
 pub fn tally_refused([number, beside, size, absent]: Refused) -> Tally {
     [number, beside, 0, 0, 0, 0, 0, 0, 0, size, absent]
+}
+
+/// What is answered where this entry is found.
+pub fn found(entry: Entry) -> Found {
+    [0, 0, entry.number as u64, entry.first as u64, entry.place as u64, 0, 0]
+}
+
+/// And where none is.
+pub fn not_found([number, beside, size, absent]: Refused) -> Found {
+    [number, beside, 0, 0, 0, size, absent]
 }
 
 pub fn detect_format(file: &[u8]) -> u8 {
@@ -93,6 +105,28 @@ pub fn write_ds2_sp(header: &[u8], packets: &[u8], out: &mut [u8]) -> Numbers {
     let out_len = out.len();
     numbers(unsafe {
         raw::klov_write_ds2_sp(header.as_ptr(), header.len(), packets.as_ptr(), packets.len(), out.as_mut_ptr(), out_len)
+    })
+}
+
+pub fn build_index(file: &[u8], out: &mut [u8]) -> Numbers {
+    numbers(unsafe { raw::klov_build_index(file.as_ptr(), file.len(), out.as_mut_ptr(), out.len()) })
+}
+
+pub fn read_index(file: &[u8], index: &[u8]) -> Numbers {
+    numbers(unsafe { raw::klov_read_index(file.as_ptr(), file.len(), index.as_ptr(), index.len()) })
+}
+
+pub fn find_entry(file: &[u8], index: &[u8], packet: usize) -> Found {
+    let found = unsafe { raw::klov_find_entry(file.as_ptr(), file.len(), index.as_ptr(), index.len(), packet) };
+    let raw::Entry { refusal, beside, number, first, place, size, absent } = found;
+    [refusal, beside, number, first, place, size, absent]
+}
+
+pub fn dss_packet(file: &[u8], index: &[u8], packet: usize, out: &mut [u8], counts: &mut [u8]) -> Numbers {
+    let (file_len, index_len, out_len, counts_len) = (file.len(), index.len(), out.len(), counts.len());
+    let (out, counts) = (out.as_mut_ptr(), counts.as_mut_ptr());
+    numbers(unsafe {
+        raw::klov_dss_packet(file.as_ptr(), file_len, index.as_ptr(), index_len, packet, out, out_len, counts, counts_len)
     })
 }
 

@@ -1,6 +1,6 @@
 // The whole SP readings of both kinds: numbers, packets, counts, and what was written and what was not, in rooms that are exact, ample or
-// short; and of DS2 the same packets at once. Packets are the original's; counts, which it has not, are the model's.
-use crate::at_once;
+// short; and the same packets by their numbers, of DS2 at once, of DSS by an index. Packets are the original's; counts, which it has not, are
+// the model's.
 use crate::both::Both;
 use crate::common::files::Dice;
 use crate::common::model::{self, refused, Kind, Packet};
@@ -8,6 +8,7 @@ use crate::differences::Name;
 use crate::lent::Lent;
 use crate::ours::{self, Numbers};
 use crate::score::Score;
+use crate::{at_once, indexed};
 use original::DemuxedDs2;
 
 /// What is expected of a call: packets joined, and their counts.
@@ -102,8 +103,9 @@ pub fn compare(both: &Both, dice: &mut Dice, score: &mut Score) {
                 score.named(name, call.name, (ours::refused(refusal), true), call.refused(both.file, any));
             }
         }
-        if let (Err(refusal), false) = (expected, call.dss) {
-            at_once::refused(both.file, refusal, dice, score);
+        if let Err(refusal) = expected {
+            let refused = if call.dss { indexed::refused } else { at_once::refused };
+            refused(both.file, refusal, dice, score);
         }
     }
 }
@@ -131,9 +133,8 @@ fn packets(call: Call, both: &Both, (kind, start): (Kind, usize), dice: &mut Dic
         }
         None => score.named(call.cut, call.name, (numbers, true, true), held),
     }
-    if !call.dss {
-        at_once::compare(both.file, theirs.as_ref().map(|(theirs, _)| &theirs[..]), &expected, dice, score);
-    }
+    let by_number = if call.dss { indexed::compare } else { at_once::compare };
+    by_number(both.file, theirs.as_ref().map(|(theirs, _)| &theirs[..]), &expected, dice, score);
     if packets > 0 {
         let room = lacking(packets, dice);
         score.named(Name::PacketRoom, call.name, (ours::refused(refused(8, packets as u64)), true), call.refused(both.file, room));

@@ -21,8 +21,13 @@
  * if all bytes of its read came from the recording and, where it is swapped, its carried byte too; before any unswapped read that one is ours.
  * Else it is short: what is missing in it are zeros that nobody recorded. Which reads are swapped the block headers say, so that a count of 40
  * alone does not tell; nor does a full count of a swapped packet say that it is whole. Every call starts again at out[0] and counts[0], a
- * reader's too, and klov_ds2_sp_packet's one packet stands there whatever its number is; what lies past the packets handed out is as it was.
- * Room is the smaller of out_len / KLOV_PACKET and counts_len.
+ * reader's too, and the one packet of klov_ds2_sp_packet and klov_dss_packet stands there whatever its number is; what lies past the packets handed
+ * out is as it was. Room is the smaller of out_len / KLOV_PACKET and counts_len.
+ *
+ * AN INDEX lies beside a DSS recording: a big-endian length of all that follows it, 4 bytes, a version byte, 1, and KLOV_INDEX_ENTRY bytes for each
+ * block that announces something, in order: the block's number, the number of its first packet, and where its reads start in the payload stream,
+ * big-endian, 4 bytes each. Packets and blocks are numbered from 0. One recording has exactly one index, and every call that is lent one holds all
+ * of it to the recording first, block by block: what is not the recording's is refused, and no entry of it is shown.
  *
  * A READER takes an SP recording in pieces. It reads, drains, or has ended:
  * - it reads from klov_open on. klov_piece takes a piece, which may be cut anywhere and may be empty, whole or not at all. A refused call
@@ -79,7 +84,10 @@
  *   15  write: a header not of 1,536 bytes, or that does not begin `\x01ds2` or `\x03ds2`  0
  *   16  write: a packet that is cut short, or whose byte 40 is not 0                       its number, from 0
  *   17  write: the file would be over the limit                                            268435456
- *   18  packet: a number that is not below the packets announced                           how many those are
+ *   18  packet, find: a number that is not below the packets announced                     how many those are
+ *   19  index: under 4 bytes, or its length is 0 or not that of what follows it            0
+ *   20  index: a version other than 1                                                      that version
+ *   21  index: an entry differs from the recording's, is cut, absent or one too many       the first such entry, from 0
  * Where several hold, the first in the call's own list is given.
  */
 #ifndef KLOVDRUN_H
@@ -110,6 +118,9 @@ extern "C" {
 /* Words of a segment's entry in a table of QP, and in one of QP7. */
 #define KLOV_QP_WORDS 4u
 #define KLOV_QP7_WORDS 3u
+/* Bytes of an index before its entries, and of an entry. */
+#define KLOV_INDEX_FRONT 5u
+#define KLOV_INDEX_ENTRY 12u
 /* A reader's size and alignment. */
 #define KLOV_READER_SIZE 12928u
 #define KLOV_READER_ALIGN 8u
@@ -143,7 +154,10 @@ enum {
     KLOV_REFUSED_WRITER_HEADER = 15,
     KLOV_REFUSED_PACKET = 16,
     KLOV_REFUSED_FILE_LIMIT = 17,
-    KLOV_REFUSED_BEYOND = 18
+    KLOV_REFUSED_BEYOND = 18,
+    KLOV_REFUSED_INDEX = 19,
+    KLOV_REFUSED_INDEX_VERSION = 20,
+    KLOV_REFUSED_INDEX_ENTRY = 21
 };
 
 /* What klov_detect_format answers. */
@@ -191,6 +205,18 @@ typedef struct {
     uint64_t size;
     uint64_t absent;
 } klov_tallied;
+
+/* An entry of an index: the number of a block that announces something, the number of its first packet, and the place in the payload stream where
+ * its reads start. On a refusal these three are 0. `size` and `absent` are as in klov_answer: 0. */
+typedef struct {
+    uint64_t refusal;
+    uint64_t beside;
+    uint64_t number;
+    uint64_t first;
+    uint64_t place;
+    uint64_t size;
+    uint64_t absent;
+} klov_entry;
 
 /* A reader. What is in it is its own. */
 typedef struct {
@@ -287,6 +313,24 @@ KLOV_MUST_USE klov_answer klov_lenient_end(klov_reader *reader, uint8_t *out, si
  * 0, a call says by 8 how many bytes the file has. Refusals 15, 16, 17, 8. */
 KLOV_MUST_USE klov_answer klov_write_ds2_sp(const uint8_t *header, size_t header_len, const uint8_t *packets, size_t packets_len, uint8_t *out, size_t out_len);
 
+/* The index of a DSS file. first: its bytes, which are the first of `out`; second: its entries. What lies past it is as it was. With no room, out_len
+ * 0, a call says by 8 how many bytes it has: KLOV_INDEX_FRONT and KLOV_INDEX_ENTRY for each entry. Refusals 1, 2, 3, 8. */
+KLOV_MUST_USE klov_answer klov_build_index(const uint8_t *file, size_t file_len, uint8_t *out, size_t out_len);
+
+/* Reads an index with its DSS file lent: it is the one that klov_build_index gives, byte for byte, or it is refused. first: its entries; second:
+ * packets in all. Refusals 1, 2, 3, 19, 20, 21. */
+KLOV_MUST_USE klov_answer klov_read_index(const uint8_t *file, size_t file_len, const uint8_t *index, size_t index_len);
+
+/* The entry for a packet by its number, from 0: that of the block which announces the packet. All of the index is held to the file before it is
+ * looked up, so that what a call costs grows with the blocks. Refusals 1, 2, 3, 19, 20, 21, 18. */
+KLOV_MUST_USE klov_entry klov_find_entry(const uint8_t *file, size_t file_len, const uint8_t *index, size_t index_len, size_t packet);
+
+/* The packet of a DSS file by its index and number, from 0: the bytes and the count that klov_demux_dss gives under that number, the carried byte and
+ * the padding past the stream's end included. first: 1; the packet is in the first KLOV_PACKET bytes of out, its count in counts[0]. What is carried
+ * is taken from the last unswapped read before it, in its own block or in an earlier one, and no other packet is walked over. Beside 8 stands 1.
+ * Refusals 1, 2, 3, 19, 20, 21, 18, 8. */
+KLOV_MUST_USE klov_answer klov_dss_packet(const uint8_t *file, size_t file_len, const uint8_t *index, size_t index_len, size_t packet, uint8_t *out, size_t out_len, uint8_t *counts, size_t counts_len);
+
 /* What follows is no part of the archive. */
 
 /* The kind of reader that takes a recording which begins with these bytes, of which four are enough; KLOV_READ_WHOLE if none does. */
@@ -360,6 +404,12 @@ static inline int klov_refusal_sentence(char *text, size_t room, const klov_answ
         return snprintf(text, room, "the file would be over the limit of %llu bytes", beside);
     case KLOV_REFUSED_BEYOND:
         return snprintf(text, room, "there is no packet of that number: the recording announces %llu", beside);
+    case KLOV_REFUSED_INDEX:
+        return snprintf(text, room, "this is not an index: its first four bytes are 0, or not how many follow them, or are not there");
+    case KLOV_REFUSED_INDEX_VERSION:
+        return snprintf(text, room, "the index is of version %llu, which the call does not read", beside);
+    case KLOV_REFUSED_INDEX_ENTRY:
+        return snprintf(text, room, "the index is another recording's: its entry %llu differs, is cut, is missing or is one too many", beside);
     default:
         return snprintf(text, room, "refusal %llu, which is not known here, with %llu", number, beside);
     }

@@ -39,6 +39,9 @@ impl Refusal {
     pub const PACKET: u64 = 16;
     pub const FILE_LIMIT: u64 = 17;
     pub const BEYOND: u64 = 18;
+    pub const INDEX: u64 = 19;
+    pub const INDEX_VERSION: u64 = 20;
+    pub const INDEX_ENTRY: u64 = 21;
 }
 
 impl Refusal {
@@ -73,6 +76,9 @@ impl fmt::Display for Refusal {
             Refusal::PACKET => write!(to, "packet {beside} is cut short, or its byte 40 is not 0"),
             Refusal::FILE_LIMIT => write!(to, "the file would be over the limit of {beside} bytes"),
             Refusal::BEYOND => write!(to, "there is no packet of that number: the recording announces {beside}"),
+            Refusal::INDEX => write!(to, "this is not an index: its first four bytes are 0, or not how many follow them, or are not there"),
+            Refusal::INDEX_VERSION => write!(to, "the index is of version {beside}, which the call does not read"),
+            Refusal::INDEX_ENTRY => write!(to, "the index is another recording's: its entry {beside} differs, is cut, is missing or is one too many"),
             other => write!(to, "refusal {other}, which is not known here, with {beside}"),
         }
     }

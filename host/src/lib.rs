@@ -5,7 +5,8 @@
 //! for the other. What is added stands beside it: [`Packets`] with the count of file bytes of each packet,
 //! [`ds2_sp_packet`](demux::ds2::ds2_sp_packet) for any one of them at once, [`Reader`] for pieces without an allocation,
 //! [`places`] and [`frames`] for bytes that stay in the file, [`tally`](tally()) for a file in numbers, [`ReadSizes`] and [`Wholeness`],
-//! which tell whole packets from short ones, and [`mux`], which makes a DS2 SP file of packets.
+//! which tell whole packets from short ones, [`mux`], which makes a DS2 SP file of packets, and [`index`], which makes and reads an index
+//! beside a DSS recording and finds packets by it.
 //! Every call answers, or refuses by an [`error::Refusal`]; a refused call changes nothing.
 //!
 //! # Complete as announced
@@ -25,6 +26,7 @@ compile_error!("libklovdrun.a is for x86-64 with the System V calling convention
 pub mod demux;
 pub mod error;
 pub mod frames;
+pub mod index;
 pub mod mux;
 mod packets;
 pub mod places;
@@ -69,3 +71,7 @@ pub const fn dss_start(first: u8) -> FilePlace {
 pub const QP_WORDS: usize = 4;
 /// Words of a QP7 segment's entry in a table.
 pub const QP7_WORDS: usize = 3;
+/// Bytes of an index before its entries.
+pub const INDEX_FRONT: usize = 5;
+/// Bytes of an entry of an index.
+pub const INDEX_ENTRY: usize = 12;

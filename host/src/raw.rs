@@ -40,6 +40,19 @@ pub(crate) struct Tallied {
     pub(crate) absent: u64,
 }
 
+/// `klov_entry`: an entry of an index.
+#[repr(C)]
+#[derive(Clone, Copy)]
+pub(crate) struct Entry {
+    pub(crate) refusal: u64,
+    pub(crate) beside: u64,
+    pub(crate) number: u64,
+    pub(crate) first: u64,
+    pub(crate) place: u64,
+    pub(crate) size: u64,
+    pub(crate) absent: u64,
+}
+
 /// `klov_reader`: what is in it is its own. It may be copied and moved as a whole.
 #[repr(C)]
 #[derive(Clone)]
@@ -57,6 +70,7 @@ pub(crate) struct Opened {
 
 const _: () = assert!(size_of::<Answer>() == 48 && align_of::<Answer>() == 8);
 const _: () = assert!(size_of::<Tallied>() == 88 && align_of::<Tallied>() == 8);
+const _: () = assert!(size_of::<Entry>() == 56 && align_of::<Entry>() == 8);
 const _: () = assert!(size_of::<Reader>() == READER_SIZE && align_of::<Reader>() == 8);
 const _: () = assert!(size_of::<Opened>() == 48 + READER_SIZE && align_of::<Opened>() == 8);
 
@@ -139,6 +153,20 @@ extern "C" {
         packets_len: usize,
         out: *mut u8,
         out_len: usize,
+    ) -> Answer;
+    pub(crate) fn klov_build_index(file: *const u8, file_len: usize, out: *mut u8, out_len: usize) -> Answer;
+    pub(crate) fn klov_read_index(file: *const u8, file_len: usize, index: *const u8, index_len: usize) -> Answer;
+    pub(crate) fn klov_find_entry(file: *const u8, file_len: usize, index: *const u8, index_len: usize, packet: usize) -> Entry;
+    pub(crate) fn klov_dss_packet(
+        file: *const u8,
+        file_len: usize,
+        index: *const u8,
+        index_len: usize,
+        packet: usize,
+        out: *mut u8,
+        out_len: usize,
+        counts: *mut u8,
+        counts_len: usize,
     ) -> Answer;
 }
 
@@ -298,4 +326,31 @@ pub(crate) fn lenient_end(reader: &mut Reader, out: &mut [u8], counts: &mut [u8]
 pub(crate) fn write_ds2_sp(header: &[u8], packets: &[u8], out: &mut [u8]) -> Result<usize> {
     checked();
     unsafe { klov_write_ds2_sp(header.as_ptr(), header.len(), packets.as_ptr(), packets.len(), out.as_mut_ptr(), out.len()) }.first()
+}
+
+/// How many bytes the index has, and how many entries.
+pub(crate) fn build_index(file: &[u8], out: &mut [u8]) -> Result<(usize, usize)> {
+    checked();
+    unsafe { klov_build_index(file.as_ptr(), file.len(), out.as_mut_ptr(), out.len()) }.pair()
+}
+
+/// How many entries, and how many packets in all.
+pub(crate) fn read_index(file: &[u8], index: &[u8]) -> Result<(usize, usize)> {
+    checked();
+    unsafe { klov_read_index(file.as_ptr(), file.len(), index.as_ptr(), index.len()) }.pair()
+}
+
+pub(crate) fn find_entry(file: &[u8], index: &[u8], packet: usize) -> Result<Entry> {
+    checked();
+    let entry = unsafe { klov_find_entry(file.as_ptr(), file.len(), index.as_ptr(), index.len(), packet) };
+    let Entry { refusal: number, beside, size, absent, .. } = entry;
+    accepted(Refusal { number, beside, size, absent }, entry)
+}
+
+/// How many packets: one.
+pub(crate) fn dss_packet(file: &[u8], index: &[u8], packet: usize, out: &mut [u8], counts: &mut [u8]) -> Result<usize> {
+    checked();
+    let (file_len, index_len, out_len, counts_len) = (file.len(), index.len(), out.len(), counts.len());
+    let (out, counts) = (out.as_mut_ptr(), counts.as_mut_ptr());
+    unsafe { klov_dss_packet(file.as_ptr(), file_len, index.as_ptr(), index_len, packet, out, out_len, counts, counts_len) }.first()
 }

@@ -7,6 +7,7 @@ use common::model::{self, refused, Refused};
 use klovdrun::demux::detect_format;
 use klovdrun::demux::ds2::{self, Ds2QpStreamDemuxer, Ds2SpStreamDemuxer};
 use klovdrun::demux::dss::{self, DssSpStreamDemuxer};
+use klovdrun::index::{build_index, build_index_into, dss_packet, dss_packet_into, find_entry, index_size, read_index, Totals};
 use klovdrun::{frames, places, tally, Reader, Refusal, StreamPlace, FRAME, LIMIT, QP7_WORDS, QP_WORDS};
 use std::collections::BTreeSet;
 
@@ -25,8 +26,9 @@ fn unwritten<T>(call: impl FnOnce(&mut [u8], &mut [u8], &mut [u32], &mut [u32]) 
     refusal
 }
 
-/// What the whole calls answer of a file: DSS; SP, QP and QP7 of DS2; fetch and show, a payload, the tally, and a packet that no file has.
-fn whole(file: &[u8]) -> [Refused; 9] {
+/// What the whole calls answer of a file: DSS; SP, QP and QP7 of DS2; fetch and show, a payload, the tally, and a packet that no file has; an index
+/// in too little room, reading an index that none is, and by it an entry and a packet that no file has.
+fn whole(file: &[u8]) -> [Refused; 13] {
     [
         unwritten(|out, counts, _, _| dss::demux_dss_into(file, out, counts)),
         unwritten(|out, counts, _, _| ds2::demux_ds2_sp_into(file, out, counts)),
@@ -37,6 +39,10 @@ fn whole(file: &[u8]) -> [Refused; 9] {
         told(places::payload(file, 999)),
         told(tally(file)),
         unwritten(|out, counts, _, _| ds2::ds2_sp_packet_into(file, usize::MAX, out, counts)),
+        unwritten(|out, _, _, _| build_index_into(file, &mut out[..4])),
+        told(read_index(file, b"")),
+        told(find_entry(file, b"", usize::MAX)),
+        unwritten(|out, counts, _, _| dss_packet_into(file, b"", usize::MAX, out, counts)),
     ]
 }
 
@@ -92,13 +98,14 @@ fn fed(kind: u64, bytes: &[u8]) -> Reader {
 #[test]
 fn one_not_a_magic_of_the_call() {
     for file in [&b""[..], b"\x01ds", b"\x02ds", b"\x06dss", b"\x02ds2", b"\x03enc", &zeros(b"RIFF", 5000)] {
-        assert_eq!(whole(file), [refused(1, 0); 9]);
+        assert_eq!(whole(file), [refused(1, 0); 13]);
         assert_eq!(told(dss::demux_dss(file)), refused(1, 0));
         assert_eq!(told(ds2::demux_ds2(file)), refused(1, 0));
     }
     let dss = whole(&zeros(b"\x02dss", 2048));
     assert_eq!((&dss[1..6], dss[8]), (&[refused(1, 0); 5][..], refused(1, 0)));
-    assert_eq!(whole(&zeros(b"\x03ds2", 2048))[0], refused(1, 0));
+    let ds2 = whole(&zeros(b"\x03ds2", 2048));
+    assert_eq!((ds2[0], &ds2[9..]), (refused(1, 0), &[refused(1, 0); 4][..]));
     assert_eq!(told(Ds2QpStreamDemuxer::new().finish()), refused(1, 0));
 }
 
@@ -109,11 +116,11 @@ fn one_encrypted() {
         let file = blocks(b"\x03enc", 1536, &[header(0x0F, 3, 2, kind), header(0x0F, 3, 0, kind)]);
         for length in 4..=file.len() {
             assert_eq!(detect_format(&file[..length]), None, "{length} bytes, type {kind}");
-            assert_eq!(whole(&file[..length]), [refused(1, 0); 9], "{length} bytes, type {kind}");
+            assert_eq!(whole(&file[..length]), [refused(1, 0); 13], "{length} bytes, type {kind}");
         }
     }
     let long = zeros(b"\x03enc", LIMIT + 1);
-    assert_eq!((detect_format(&long), whole(&long)), (None, [refused(1, 0); 9]));
+    assert_eq!((detect_format(&long), whole(&long)), (None, [refused(1, 0); 13]));
 }
 
 #[test]
@@ -121,9 +128,9 @@ fn two_over_the_limit() {
     const OVER: Refused = refused(2, 268_435_456);
     const OTHER: Refused = refused(1, 0);
     let mut file = zeros(b"\x02dss", LIMIT + 1);
-    assert_eq!(whole(&file), [OVER, OTHER, OTHER, OTHER, OTHER, OTHER, OVER, OVER, OTHER]);
+    assert_eq!(whole(&file), [OVER, OTHER, OTHER, OTHER, OTHER, OTHER, OVER, OVER, OTHER, OVER, OVER, OVER, OVER]);
     file[..4].copy_from_slice(b"\x01ds2");
-    assert_eq!(whole(&file), [OTHER, OVER, OVER, OVER, OVER, OVER, OVER, OVER, OVER]);
+    assert_eq!(whole(&file), [OTHER, OVER, OVER, OVER, OVER, OVER, OVER, OVER, OVER, OTHER, OTHER, OTHER, OTHER]);
     assert_eq!(unmoved(&mut fed(0, &[]), |reader, out, counts| reader.piece(&file, out, counts)), OVER);
     let mut reader = fed(3, &file[..2000]);
     assert_eq!(unmoved(&mut reader, |reader, out, counts| reader.piece(&file[..LIMIT - 1999], out, counts)), OVER);
@@ -141,6 +148,7 @@ fn three_inside_the_header() {
         let cut = refused(3, start as u64);
         assert!(answers.iter().all(|&answer| answer == cut || answer == refused(1, 0)));
         assert_eq!((answers[6], answers[7], answers[8]), (cut, cut, answers[1]));
+        assert_eq!(answers[9..], [answers[0]; 4]);
         assert_eq!(answers[if magic[3] == b's' { 0 } else { 3 }], cut);
         assert_eq!(tally(&zeros(magic, start)).map(|tally| tally.blocks), Ok(0));
     }
@@ -245,6 +253,13 @@ fn eight_too_little_room() {
     assert!(out.iter().chain(&counts).all(|&byte| byte == 0xA5));
     assert_eq!(ds2::ds2_sp_packet_into(&sp, 12, &mut out[..42], &mut counts[..1]), Ok(1));
     assert_eq!(ds2::demux_ds2_sp_into(&sp, &mut out, &mut counts), Ok(13));
+    let (index, mut lent) = (build_index(&dss).unwrap(), [0xA5; 30]);
+    assert_eq!((whole(&dss)[9], told(build_index_into(&dss, &mut lent[..28]))), (refused(8, 29), refused(8, 29)));
+    assert_eq!(told(dss_packet_into(&dss, &index, 12, &mut lent, &mut [0])), refused(8, 1));
+    assert_eq!(told(dss_packet_into(&dss, &index, 12, &mut out[..42], &mut [])), refused(8, 1));
+    assert!(lent.iter().all(|&byte| byte == 0xA5));
+    assert_eq!((build_index_into(&dss, &mut lent).map(|built| built.entries), lent[29]), (Ok(2), 0xA5));
+    assert_eq!(dss_packet_into(&dss, &index, 12, &mut out[..42], &mut counts[..1]), Ok(1));
     for (kind, file, needed) in [(0, &sp, 13), (2, &dss, 13)] {
         let answer = unmoved(&mut fed(kind, &file[..700]), |reader, out, counts| reader.piece(&file[700..], out, counts));
         assert_eq!(answer, refused(8, needed));
@@ -336,9 +351,97 @@ fn eighteen_no_packet_of_that_number() {
 }
 
 #[test]
+fn eighteen_by_an_index() {
+    let (dss, silent) = indexed();
+    for (file, total) in [(&dss, 13), (&silent, 0), (&zeros(b"\x02dss", 1024), 0)] {
+        let index = build_index(file).unwrap();
+        // a reading has no number to refuse
+        assert_eq!(read_index(file, &index).map(|totals| totals.packets), Ok(total));
+        for number in [total, total + 1, 1 << 32, usize::MAX] {
+            assert_eq!(told(find_entry(file, &index, number)), refused(18, total as u64));
+            assert_eq!(told(dss_packet(file, &index, number)), refused(18, total as u64));
+            // with no room too
+            assert_eq!(told(dss_packet_into(file, &index, number, &mut [], &mut [])), refused(18, total as u64));
+        }
+    }
+    let index = build_index(&dss).unwrap();
+    assert_eq!((told(find_entry(&dss, &index, 12)), told(dss_packet(&dss, &index, 12))), ([0; 4], [0; 4]));
+}
+
+/// A DSS recording of two announcing blocks around a silent one, with 13 packets, and one of silent blocks alone.
+fn indexed() -> (Vec<u8>, Vec<u8>) {
+    let silent = header(0x8F, 3, 0, 0);
+    (blocks(b"\x02dss", 1024, &[header(0x0F, 3, 11, 0), silent, header(0x8F, 3, 2, 0)]), blocks(b"\x03dss", 1536, &[silent; 3]))
+}
+
+/// What the three calls that are lent an index say, asked for a packet that no file has and in no room; all of them the same.
+fn lent(file: &[u8], index: &[u8]) -> Refused {
+    let refusal = told(read_index(file, index));
+    assert_eq!(told(find_entry(file, index, usize::MAX)), refusal);
+    assert_eq!(told(dss_packet(file, index, usize::MAX)), refusal);
+    assert_eq!(told(dss_packet_into(file, index, usize::MAX, &mut [], &mut [])), refusal);
+    assert_eq!(unwritten(|out, counts, _, _| dss_packet_into(file, index, 0, out, counts)), refusal);
+    refusal
+}
+
+#[test]
+fn nineteen_not_an_index() {
+    let (dss, silent) = indexed();
+    for file in [dss, silent] {
+        assert_eq!(whole(&file)[10..], [refused(19, 0); 3]);
+        let index = build_index(&file).unwrap();
+        let after = index.len() as u32 - 4;
+        for length in 0..index.len() {
+            assert_eq!(lent(&file, &index[..length]), refused(19, 0));
+        }
+        for length in [0, after - 1, after + 1, after.swap_bytes(), u32::MAX] {
+            assert_eq!(lent(&file, &[&length.to_be_bytes(), &index[4..]].concat()), refused(19, 0));
+        }
+        // what follows is not looked at, be it of another version too
+        for bytes in [&[0; 3][..], &[0; 4], &[0; 5], &[0, 0, 0, 2, 9], &[&index[..], b"\x01"].concat()] {
+            assert_eq!(lent(&file, bytes), refused(19, 0));
+        }
+    }
+}
+
+#[test]
+fn twenty_another_version() {
+    let (dss, silent) = indexed();
+    for (file, version) in [dss, silent].iter().flat_map(|file| [0, 2, 3, 128, 255].map(|version| (file, version))) {
+        let mut index = build_index(file).unwrap();
+        index[4] = version;
+        assert_eq!(lent(file, &index), refused(20, u64::from(version)));
+        // whatever its entries are
+        assert_eq!(lent(file, &[0, 0, 0, 4, version, 9, 9, 9]), refused(20, u64::from(version)));
+    }
+}
+
+#[test]
+fn twenty_one_not_the_entries_of_the_file() {
+    let (dss, silent) = indexed();
+    let index = build_index(&dss).unwrap();
+    assert_eq!((index.len(), read_index(&dss, &index)), (29, Ok(Totals { entries: 2, packets: 13 })));
+    // the version and so many bytes of the entries, and others after them
+    let made = |kept: usize, others: &[u8]| [&[0, 0, 0, (1 + kept + others.len()) as u8], &index[4..5 + kept], others].concat();
+    // absent, cut, one too many, and of that one a part
+    for (kept, others, entry) in [(0, 0, 0), (12, 0, 1), (1, 0, 0), (11, 0, 0), (13, 0, 1), (23, 0, 1), (24, 12, 2), (24, 1, 2), (24, 13, 2)] {
+        assert_eq!(lent(&dss, &made(kept, &vec![0; others])), refused(21, entry));
+    }
+    // one that differs in any byte
+    for place in 0..24 {
+        let mut other = index.clone();
+        other[5 + place] ^= 0x10;
+        assert_eq!(lent(&dss, &other), refused(21, place as u64 / 12));
+    }
+    // another recording's
+    assert_eq!((lent(&silent, &index), lent(&dss, &build_index(&silent).unwrap())), (refused(21, 0), refused(21, 0)));
+    assert_eq!((lent(&dss[..2048], &index), index_size(&dss[..2048])), (refused(21, 1), Ok(17)));
+}
+
+#[test]
 fn every_refusal_has_a_sentence_of_its_own() {
     // those with a number beside them that tells something, those without, and one that there is not
-    let (telling, others) = ([2, 3, 4, 5, 7, 8, 9, 10, 11, 13, 14, 16, 17, 18], [1, 6, 12, 15, u64::MAX]);
+    let (telling, others) = ([2, 3, 4, 5, 7, 8, 9, 10, 11, 13, 14, 16, 17, 18, 20, 21], [1, 6, 12, 15, 19, u64::MAX]);
     let sentence = |number, beside, size, absent| Refusal { number, beside, size, absent }.to_string();
     let sentences: BTreeSet<String> = telling.iter().chain(&others).map(|&number| sentence(number, 0, 0, 0)).collect();
     assert_eq!(sentences.len(), telling.len() + others.len());
@@ -355,4 +458,6 @@ fn every_refusal_has_a_sentence_of_its_own() {
     assert_eq!(sentence(5, 504, 56, 54), "a record of 56 bytes at place 504 of the payload stream: 54 bytes are missing");
     assert_eq!(sentence(4, 506, 0, 2), "a record should begin at place 506 of the payload stream: 2 of its first 2 bytes are missing");
     assert_eq!(sentence(18, 13, 0, 0), "there is no packet of that number: the recording announces 13");
+    assert_eq!(sentence(20, 2, 0, 0), "the index is of version 2, which the call does not read");
+    assert_eq!(sentence(21, 7, 0, 0), "the index is another recording's: its entry 7 differs, is cut, is missing or is one too many");
 }

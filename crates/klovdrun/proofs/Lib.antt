@@ -4,6 +4,7 @@ pub mod Refusing
 pub mod Settled
 pub mod Theorems
 pub mod AtOnce
+pub mod Indexed
 pub mod Unread
 pub mod Lacking
 pub mod Hosted

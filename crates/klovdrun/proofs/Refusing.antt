@@ -1,14 +1,15 @@
 -- Whatever an export's wrapped call refuses by is in the export's list, and tells of absent bytes only if it is of a record.
 -- Assumes nothing.
 use Prim.Native.Nat.{ℕ, _+_, _*_}
-use mathlib.Core.Path.{_≡_, refl}
+use mathlib.Core.Path.{_≡_, refl, sym, subst}
 use mathlib.Core.List.{List, _++_}
 use mathlib.Core.Bool.{Bool, true, false, not, cond}
-use lib.ListN.{length}
+use lib.ListN.{length, getD, drop}
 use lib.Dec.{eqb, leb, ltb}
 use Rattle.blocks.specs.Places.{limit}
 use Rattle.refusals.specs.Said.{Said, isAmong, Numbered}
-use Rattle.refusals.proofs.Numbered.{answered, asked, goes-on, hasAll, wider}
+use Rattle.refusals.proofs.Said.{by-said}
+use Rattle.refusals.proofs.Numbered.{answered, refused-so, asked, goes-on, hasAll, wider}
 use Rattle.detect.specs.declared.Kind.the-variants.{Sp, Qp, Qp7}
 use Rattle.whole.specs.Admissions.{admission, ds2Admission, announcedBy}
 use Rattle.whole.specs.Payload.{placeIn, payloadPlace}
@@ -24,9 +25,17 @@ use Rattle.qp7.proofs.Refusing.{gathering-all}
 use Rattle.frames.specs.Fetch.{canFetch, fetchFrom, standing}
 use Rattle.laying.specs.Header.{isHeader}
 use Rattle.writing.specs.Outcome.{soundIn, sizeOf, writtenSize}
+use Rattle.entries.specs.Entries.{entriesBy}
+use Rattle.entries.specs.Index.{sizeOf as indexSize}
+use Rattle.entries.specs.Held.{isRest}
+use Rattle.index.specs.Reading.{contentsOf, framed, readBeside, indexRead}
+use Rattle.index.specs.Outcome.{inRoom as inIndex, sized, totalled}
+use Rattle.finding.specs.Finding.{foundIn, entryFound}
+use Rattle.finding.specs.Packet.{packetFound}
+use Rattle.finding.proofs.Theorems.{found-by-reading, entry-has-the-packet, packet-by-entry, refused-alike}
 use Rattle.reader.specs.State.{State, isKind, startOf, owed, fitsBy, headerDone}
 use Rattle.reader.specs.Calls.{openSaid, brings, pieceSaid, inBlock, strictBy, strictSaid, lenientSaid}
-use Rattle.klovdrun.specs.Refusals.{payloadRefusals, dssRefusals, ds2Refusals, packetRefusals, qpRefusals, qp7Refusals, fetchRefusals, openRefusals, pieceRefusals, strictRefusals, lenientRefusals, writeRefusals}
+use Rattle.klovdrun.specs.Refusals.{payloadRefusals, dssRefusals, ds2Refusals, packetRefusals, qpRefusals, qp7Refusals, fetchRefusals, openRefusals, pieceRefusals, strictRefusals, lenientRefusals, writeRefusals, buildRefusals, readRefusals, findRefusals, foundRefusals}
 
 -- a payload
 pub payload-numbered : (f : List ℕ) (block : ℕ) → Numbered payloadRefusals (payloadPlace f block)
@@ -89,6 +98,49 @@ write-numbered header packets room =
     (asked (eqb (42 * soundIn packets) (length packets)) 16 _ refl
     (asked (leb (sizeOf packets) limit) 17 limit refl
     (asked (leb (sizeOf packets) room) 8 _ refl (answered _))))
+
+-- an index: built, read, and searched for an entry or a packet
+pub build-numbered : (f : List ℕ) (room : ℕ) → Numbered buildRefusals (sized (inIndex (contentsOf f) room))
+unfolding inIndex contentsOf isAmong hasAll
+build-numbered f room =
+    goes-on _ _
+    (goes-on _ _ (goes-on (admission f true false) _ (wider refl (admitting f true false)) (λ rec. answered _))
+    (λ c. asked (leb (indexSize c) room) 8 _ refl (answered c)))
+    (λ c. answered _)
+
+reading-numbered : {numbers : List ℕ} (f x : List ℕ) → hasAll numbers readRefusals ≡ true → Numbered numbers (indexRead f x)
+unfolding indexRead isAmong hasAll
+reading-numbered f x all =
+    wider {some = readRefusals} all
+    (goes-on (admission f true false) (λ rec. readBeside f rec x) (wider refl (admitting f true false))
+    (λ rec.
+    asked (framed x) 19 0 refl
+    (asked (eqb (getD x 4 0) 1) 20 _ refl (asked (isRest (entriesBy f rec) (drop 5 x)) 21 _ refl (answered _)))))
+
+pub read-numbered : (f x : List ℕ) → Numbered readRefusals (totalled (indexRead f x))
+unfolding isAmong hasAll
+read-numbered f x = goes-on _ _ (reading-numbered f x refl) (λ c. answered _)
+
+finding-numbered : {numbers : List ℕ} (f x : List ℕ) (p : ℕ) → hasAll numbers readRefusals ≡ true → isAmong numbers 18 ≡ true
+    → Numbered numbers (entryFound f x p)
+finding-numbered f x p all eighteen =
+    subst (Numbered _) (sym (found-by-reading f x p))
+    (goes-on (indexRead f x) (foundIn p) (reading-numbered f x all) (λ c. asked (ltb p (c .total)) 18 _ eighteen (answered _)))
+
+pub find-numbered : (f x : List ℕ) (p : ℕ) → Numbered findRefusals (entryFound f x p)
+unfolding isAmong hasAll
+find-numbered f x p = finding-numbered f x p refl refl
+
+pub found-numbered : (f x : List ℕ) (p : ℕ) → Numbered foundRefusals (packetFound f x p)
+unfolding isAmong hasAll
+found-numbered f x p =
+    by-said (entryFound f x p)
+    (λ entry e.
+    let h = entry-has-the-packet f x p entry e in
+    subst (Numbered foundRefusals) (sym (packet-by-entry f x p entry (h .0) (h .1) e)) (answered _))
+    (λ why e.
+    let is = finding-numbered {numbers = foundRefusals} f x p refl refl in
+    subst (Numbered foundRefusals) (sym (refused-alike f x p why e)) (refused-so why (is .among why e) (is .only-records-lack why e)))
 
 -- a reader's calls, at any state
 pub open-numbered : (kind : ℕ) → Numbered openRefusals (openSaid kind)

@@ -19,13 +19,15 @@ use Rattle.frames.specs.Fetch.{fetchedSays}
 use Rattle.frames.proofs.Theorems.{only-filled}
 use Rattle.writing.specs.Outcome.{writtenSays}
 use Rattle.writing.proofs.Theorems.{only-outcome as only-written}
+use Rattle.index.specs.Outcome.{builtSays}
+use Rattle.index.proofs.Theorems.{only-built}
 use Rattle.reader.specs.declared.Reader.{Reader}
 use Rattle.reader.specs.declared.Step.{Step}
 use Rattle.reader.specs.State.{Reached}
 use Rattle.reader.specs.History.{PieceCall, StrictCall, LenientCall, OwedCall}
 use Rattle.reader.proofs.Total.{only-opened, reached-piece, only-piece, reached-strict, only-strict, reached-lenient, only-lenient, only-owed}
 use Rattle.numbers.specs.declared.Answer.{Answer}
-use Rattle.numbers.specs.Numbers.{oneNumber, qpNumbers, qp7Numbers, standNumbers, owingNumbers}
+use Rattle.numbers.specs.Numbers.{oneNumber, qpNumbers, qp7Numbers, standNumbers, owingNumbers, builtNumbers}
 use Rattle.klovdrun.specs.Wrapped.{SpCarries, Advances, stepTo}
 use Rattle.klovdrun.proofs.klov_version.Kinds as told
 use Rattle.klovdrun.proofs.klov_version.Reads as told-reads
@@ -59,6 +61,14 @@ use Rattle.klovdrun.proofs.klov_tally.Kinds as tally
 use Rattle.klovdrun.proofs.klov_tally.Reads as tally-reads
 use Rattle.klovdrun.proofs.klov_write_ds2_sp.Kinds as write
 use Rattle.klovdrun.proofs.klov_write_ds2_sp.Reads as write-reads
+use Rattle.klovdrun.proofs.klov_build_index.Kinds as building
+use Rattle.klovdrun.proofs.klov_build_index.Reads as building-reads
+use Rattle.klovdrun.proofs.klov_read_index.Kinds as reading
+use Rattle.klovdrun.proofs.klov_read_index.Reads as reading-reads
+use Rattle.klovdrun.proofs.klov_find_entry.Kinds as finds
+use Rattle.klovdrun.proofs.klov_find_entry.Reads as finds-reads
+use Rattle.klovdrun.proofs.klov_dss_packet.Kinds as found
+use Rattle.klovdrun.proofs.klov_dss_packet.Reads as found-reads
 use Rattle.klovdrun.proofs.klov_open.Kinds as opening
 use Rattle.klovdrun.proofs.klov_open.Reads as opening-reads
 
@@ -90,6 +100,12 @@ klov-show-settled κs a x y s t p q = p ∙ sym q
 pub klov-tally-settled : SettledResult 1 tally.ps tally.r tally-reads.Post
 klov-tally-settled κs a x y s t p q = p ∙ sym q
 
+pub klov-read-index-settled : SettledResult 2 reading.ps reading.r reading-reads.Post
+klov-read-index-settled κs a x y s t p q = p ∙ sym q
+
+pub klov-find-entry-settled : SettledResult 2 finds.ps finds.r finds-reads.Post
+klov-find-entry-settled κs a x y s t p q = p ∙ sym q
+
 -- where the wrapped call's answers are the same, so are the numbers
 carried : {A : Type 0} (numbersOf : A → Answer) {x y : A} {r r′ : Answer} → x ≡ y → r ≡ numbersOf x → r′ ≡ numbersOf y → r ≡ r′
 carried numbersOf e p q = p ∙ ap numbersOf e ∙ sym q
@@ -117,6 +133,9 @@ klov-demux-ds2-sp-settled κs a x y s t p q = sp-settled p q
 pub klov-ds2-sp-packet-settled : SettledAs 3 packet.ps packet.r (λ κs. Two) (λ κs x s. (x, now (s .1 .1 .0), now (s .1 .1 .1 .0))) packet-reads.Post
 klov-ds2-sp-packet-settled κs a x y s t p q = sp-settled p q
 
+pub klov-dss-packet-settled : SettledAs 4 found.ps found.r (λ κs. Two) (λ κs x s. (x, now (s .1 .1 .1 .0), now (s .1 .1 .1 .1 .0))) found-reads.Post
+klov-dss-packet-settled κs a x y s t p q = sp-settled p q
+
 pub klov-demux-ds2-qp-settled : SettledAs 2 qp.ps qp.r (λ κs. One) (λ κs x s. (x, now (s .1 .0))) qp-reads.Post
 klov-demux-ds2-qp-settled κs a x y s t p q =
     let e = qp-only (p .comes) (q .comes) in
@@ -139,6 +158,12 @@ pub klov-write-ds2-sp-settled : SettledAs 3 write.ps write.r (λ κs. One) (λ �
 klov-write-ds2-sp-settled κs a x y s t p q =
     let e = only-written (p .comes) (q .comes) in
     let n = carried (λ answer. oneNumber (writtenSays answer)) (λ i. e i .0) (p .numbers-are) (q .numbers-are) in
+    (λ i. (n i, e i .1))
+
+pub klov-build-index-settled : SettledAs 2 building.ps building.r (λ κs. One) (λ κs x s. (x, now (s .1 .0))) building-reads.Post
+klov-build-index-settled κs a x y s t p q =
+    let e = only-built (p .comes) (q .comes) in
+    let n = carried (λ answer. builtNumbers (builtSays answer)) (λ i. e i .0) (p .numbers-are) (q .numbers-are) in
     (λ i. (n i, e i .1))
 
 -- open: the numbers and the reader beside them

@@ -26,6 +26,12 @@ use Rattle.frames.specs.Fetch.{fetchFrom, standing}
 use Rattle.frames.proofs.Theorems.{refused-fill-changes-nothing}
 use Rattle.writing.specs.Outcome.{writtenSize}
 use Rattle.writing.proofs.Theorems.{refused-changes-nothing as write-refused}
+use Rattle.entries.specs.declared.Entry.{Entry}
+use Rattle.index.specs.Reading.{contentsOf, indexRead}
+use Rattle.index.specs.Outcome.{inRoom as inIndex, sized, totalled}
+use Rattle.index.proofs.Theorems.{refused-changes-nothing as build-refused}
+use Rattle.finding.specs.Finding.{entryFound}
+use Rattle.finding.specs.Packet.{packetFound}
 use Rattle.tally.specs.declared.Figures.{Figures}
 use Rattle.tally.specs.Tallies.{tallied, tallyRefusals}
 use Rattle.tally.proofs.Theorems.{refused-by}
@@ -38,10 +44,11 @@ use Rattle.reader.proofs.Total.{refused-piece-keeps, refused-strict-keeps, refu
 use Rattle.numbers.specs.declared.Answer.{Answer}
 use Rattle.klovdrun.specs.declared.Opened.{Opened}
 use Rattle.numbers.specs.declared.Tallied.{Tallied}
-use Rattle.numbers.specs.Numbers.{numbersOr, oneNumber, qpNumbers, qp7Numbers, whereNumber, placeNumber, standNumbers, owingNumbers, tallyNumbers}
-use Rattle.klovdrun.specs.Wrapped.{SpCarries, QpCarries, Qp7Carries, FillCarries, WriteCarries, stepTo, OpenCarries, Advances, Tells, ofTally}
-use Rattle.klovdrun.specs.Refusals.{payloadRefusals, dssRefusals, ds2Refusals, packetRefusals, qpRefusals, qp7Refusals, fetchRefusals, openRefusals, pieceRefusals, strictRefusals, lenientRefusals, writeRefusals}
-use Rattle.klovdrun.proofs.Refusing.{payload-numbered, dss-numbered, ds2-numbered, packet-numbered, packets-numbered, segments-numbered, records-numbered, fetch-numbered, open-numbered, piece-numbered, strict-numbered, lenient-numbered, write-numbered}
+use Rattle.numbers.specs.declared.Entry.{Entry as Shown}
+use Rattle.numbers.specs.Numbers.{numbersOr, oneNumber, qpNumbers, qp7Numbers, whereNumber, placeNumber, standNumbers, owingNumbers, tallyNumbers, builtNumbers, readNumbers, entryNumbers}
+use Rattle.klovdrun.specs.Wrapped.{SpCarries, QpCarries, Qp7Carries, FillCarries, WriteCarries, BuildCarries, stepTo, OpenCarries, Advances, Tells, ofEntry, ofTally}
+use Rattle.klovdrun.specs.Refusals.{payloadRefusals, dssRefusals, ds2Refusals, packetRefusals, qpRefusals, qp7Refusals, fetchRefusals, openRefusals, pieceRefusals, strictRefusals, lenientRefusals, writeRefusals, buildRefusals, readRefusals, findRefusals, foundRefusals}
+use Rattle.klovdrun.proofs.Refusing.{payload-numbered, dss-numbered, ds2-numbered, packet-numbered, packets-numbered, segments-numbered, records-numbered, fetch-numbered, open-numbered, piece-numbered, strict-numbered, lenient-numbered, write-numbered, build-numbered, read-numbered, find-numbered, found-numbered}
 
 tells : {A : Type 0} {numbers : List ℕ} (first second : A → ℕ) (other : ℕ) (said : Said A) → isAmong numbers 0 ≡ false → Numbered numbers said
     → {r : Answer} → r ≡ numbersOr first second other said → Tells numbers first second other said r
@@ -106,7 +113,30 @@ klov-tally-tells f {r} e = tells (λ figures. figures .announced) (λ figures. f
     as-answer (answers figures) p = ap ofTally p
     as-answer (refusal why) p = ap ofTally p
 
--- `klov_demux_dss`, `klov_demux_ds2_sp` and `klov_ds2_sp_packet`
+-- `klov_read_index`; and `klov_find_entry`: the same of six of its seven numbers; that all are the entry's is its contract
+pub klov-read-index-tells : (f x : List ℕ) {r : Answer} → r ≡ readNumbers (totalled (indexRead f x))
+    → Tells readRefusals (λ totals. totals .entries) (λ totals. totals .packets) 0 (totalled (indexRead f x)) r
+unfolding isAmong
+klov-read-index-tells f x e = tells (λ totals. totals .entries) (λ totals. totals .packets) 0 (totalled (indexRead f x)) refl (read-numbered f x) e
+
+module _ (f x : List ℕ) (p : ℕ) {r : Shown} (e : r ≡ entryNumbers (entryFound f x p)) where
+  pub klov-find-entry-tells : Tells findRefusals (λ entry. entry .first) (λ entry. entry .place .0) 0 (entryFound f x p) (ofEntry r)
+  unfolding isAmong
+  klov-find-entry-tells =
+      tells (λ entry. entry .first) (λ entry. entry .place .0) 0 (entryFound f x p) refl (find-numbered f x p) (as-answer (entryFound f x p) e)
+    where
+      as-answer : (said : Said Entry) → r ≡ entryNumbers said → ofEntry r ≡ numbersOr (λ entry. entry .first) (λ entry. entry .place .0) 0 said
+      as-answer (answers entry) p = ap ofEntry p
+      as-answer (refusal why) p = ap ofEntry p
+
+  -- A refused call shows no entry.
+  pub no-entry-shown : 0 < r .refusal → (r .number ≡ 0) × (r .first ≡ 0) × (r .place ≡ 0)
+  no-entry-shown some =
+      let why = klov-find-entry-tells .above some in
+      let refused : r ≡ entryNumbers (refusal (why .0)) = e ∙ ap entryNumbers (why .1) in
+      (ap (λ (y : Shown). y .number) refused, ap (λ (y : Shown). y .first) refused, ap (λ (y : Shown). y .place) refused)
+
+-- `klov_demux_dss`, `klov_demux_ds2_sp`, `klov_ds2_sp_packet` and `klov_dss_packet`
 module _ {reading : Said Reading} {out out′ counts counts′ : List ℕ} {r : Answer} (c : SpCarries reading out out′ counts counts′ r) where
   sp-tells : (numbers : List ℕ) → isAmong numbers 0 ≡ false → isAmong numbers 8 ≡ true → Numbered numbers reading
       → Tells numbers (λ n. n) (λ n. 0) 0 (packets (inRoom reading (roomIn out counts))) r
@@ -134,6 +164,11 @@ module _ (f : List ℕ) {out out′ counts counts′ : List ℕ} {r : Answer} wh
       → Tells packetRefusals (λ n. n) (λ n. 0) 0 (packets (inRoom (packetReading f k) (roomIn out counts))) r
   unfolding isAmong
   packet-tells k c = sp-tells c packetRefusals refl refl (packet-numbered f k)
+
+  pub found-tells : (x : List ℕ) (p : ℕ) → SpCarries (packetFound f x p) out out′ counts counts′ r
+      → Tells foundRefusals (λ n. n) (λ n. 0) 0 (packets (inRoom (packetFound f x p) (roomIn out counts))) r
+  unfolding isAmong
+  found-tells x p c = sp-tells c foundRefusals refl refl (found-numbered f x p)
 
 -- `klov_demux_ds2_qp`
 module _ (f : List ℕ) {table table′ : List ℕ} {r : Answer} (c : QpCarries (qpReading f) table table′ r) where
@@ -183,6 +218,18 @@ module _ {header packets out out′ : List ℕ} {r : Answer} (c : WriteCarries h
   write-refused-changes-nothing some =
       let why = write-tells .above some in
       write-refused header packets out out′ (c .answer) (c .comes) (why .0) (c .comes .answer-is ∙ why .1)
+
+-- `klov_build_index`
+module _ (f : List ℕ) {out out′ : List ℕ} {r : Answer} (c : BuildCarries (contentsOf f) out out′ r) where
+  pub build-tells : Tells buildRefusals (λ size. size .bytes) (λ size. size .entries) 0 (sized (inIndex (contentsOf f) (length out))) r
+  unfolding isAmong
+  build-tells =
+      tells _ _ 0 (sized (inIndex (contentsOf f) (length out))) refl (build-numbered f (length out)) (c .numbers-are ∙ ap builtNumbers (c .comes .answer-is))
+
+  pub build-refused-changes-nothing : 0 < r .refusal → out′ ≡ out
+  build-refused-changes-nothing some =
+      let why = build-tells .above some in
+      build-refused f out out′ (c .answer) (c .comes) (why .0) (c .comes .answer-is ∙ why .1)
 
 -- `klov_open`: a fresh reader owes nothing
 pub open-tells : (kind : ℕ) {r : Opened} → OpenCarries kind r → Tells openRefusals (λ n. n) (λ n. 0) 0 (openSaid kind) (r .answer)

@@ -28,11 +28,17 @@ use Rattle.qp7.specs.Outcome.{inRoom as qp7Room, inTables, answered as records}
 use Rattle.frames.specs.Fetch.{fetchFrom, standing, shown, shownBy}
 use Rattle.tally.specs.Tallies.{tallied}
 use Rattle.tally.proofs.Theorems.{no-magic-no-tally}
+use Rattle.entries.specs.Entries.{Contents}
+use Rattle.index.specs.Reading.{contentsOf, indexRead}
+use Rattle.index.specs.Outcome.{inRoom as inIndex, sized, totalled}
+use Rattle.finding.specs.Finding.{entryFound}
+use Rattle.finding.specs.Packet.{packetFound}
 use Rattle.numbers.specs.declared.Answer.{Answer}
 use Rattle.numbers.specs.declared.Tallied.{Tallied}
-use Rattle.numbers.specs.Numbers.{formatNumber, refusing, oneNumber, qpNumbers, qp7Numbers, standNumbers, tallyNumbers}
-use Rattle.klovdrun.specs.Wrapped.{SpCarries, ofTally}
-use Rattle.klovdrun.specs.Unread.{Unread, Asked, demux-dss, demux-ds2-sp, ds2-sp-packet, demux-ds2-qp, demux-ds2-qp7, tally, payload, fetch, show}
+use Rattle.numbers.specs.declared.Entry.{Entry}
+use Rattle.numbers.specs.Numbers.{formatNumber, refusing, oneNumber, qpNumbers, qp7Numbers, standNumbers, tallyNumbers, builtNumbers, readNumbers, entryNumbers}
+use Rattle.klovdrun.specs.Wrapped.{SpCarries, ofEntry, ofTally}
+use Rattle.klovdrun.specs.Unread.{Unread, Asked, demux-dss, demux-ds2-sp, ds2-sp-packet, demux-ds2-qp, demux-ds2-qp7, tally, payload, fetch, show, build-index, read-index, find-entry, dss-packet}
 use Rattle.klovdrun.proofs.Theorems.{fetch-shows}
 
 module _ (f : List ℕ) (none : magicOf f ≡ Other) where
@@ -50,7 +56,7 @@ module _ (f : List ℕ) (none : magicOf f ≡ Other) where
 
   -- A file without a magic is read by no call that reads a file whole.
   pub no-magic-unread : Unread f
-  unfolding dssReading ds2Reading packetReading qpReading qp7Reading payloadShown shown
+  unfolding dssReading ds2Reading packetReading qpReading qp7Reading payloadShown shown contentsOf indexRead entryFound packetFound
   no-magic-unread =
       record {
         dss = rw (no-magic f true false none);
@@ -63,6 +69,10 @@ module _ (f : List ℕ) (none : magicOf f ≡ Other) where
         payload-shown = λ block. ap (shownAt f) (place-refused block);
         fetch = fetch-refused;
         frame-shown = λ place size scratch. ap (λ (said : Said Recording). shownBy f said place size scratch) (fetch-refused place size (length scratch));
+        index = rw (no-magic f true false none);
+        index-read = λ x. rw (no-magic f true false none);
+        entry = λ x number. rw (no-magic f true false none);
+        indexed = λ x number. rw (no-magic f true false none);
       }
 
 -- the numbers of an SP reading that is refused so
@@ -83,9 +93,13 @@ module _ (f : List ℕ) (unread : Unread f) where
   pub told-untallied : {r : Tallied} → r ≡ tallyNumbers (tallied f) → r ≡ tallyNumbers (refuses 1 0)
   told-untallied e = e ∙ ap tallyNumbers (unread .tally)
 
+  -- No entry is shown of it: refusal 1, and the other six numbers are 0.
+  pub told-unshown : (x : List ℕ) (number : ℕ) {r : Entry} → r ≡ entryNumbers (entryFound f x number) → r ≡ entryNumbers (refuses 1 0)
+  told-unshown x number e = e ∙ ap entryNumbers (unread .entry x number)
+
   -- Each export that reads a file whole tells refusal 1 of it, and every other number is 0.
   pub told-unread : {r : Answer} → Asked f r → r ≡ refusing (numbered 1 0) 0
-  unfolding qpRoom qp7Room
+  unfolding qpRoom qp7Room inIndex
   told-unread (demux-dss c) = sp-told c (unread .dss)
   told-unread (demux-ds2-sp c) = sp-told c (unread .ds2)
   told-unread (ds2-sp-packet number c) = sp-told c (unread .packet number)
@@ -97,6 +111,11 @@ module _ (f : List ℕ) (unread : Unread f) where
   told-unread (payload block e) = e ∙ ap oneNumber (unread .payload block)
   told-unread (fetch place size {scratch = scratch} c) = show-told place size (length scratch) (fetch-shows c)
   told-unread (show place size scratch e) = show-told place size (length scratch) e
+  told-unread (build-index {out = out} c) =
+      c .numbers-are ∙ ap builtNumbers (c .comes .answer-is ∙ ap (λ (said : Said Contents). sized (inIndex said (length out))) (unread .index))
+  told-unread (read-index x e) = e ∙ ap (λ (said : Said Contents). readNumbers (totalled said)) (unread .index-read x)
+  told-unread (find-entry x number e) = ap ofEntry (told-unshown x number e)
+  told-unread (dss-packet x number c) = sp-told c (unread .indexed x number)
 
 -- Of every file that begins with 3 and `enc`, whatever follows and however much.
 module _ (rest : List ℕ) where

@@ -50,3 +50,19 @@ lenientRefusals = 3 ∷ []
 -- `klov_write_ds2_sp`
 abbrev pub writeRefusals : List ℕ
 writeRefusals = 15 ∷ 16 ∷ 17 ∷ 8 ∷ []
+
+-- `klov_build_index`
+abbrev pub buildRefusals : List ℕ
+buildRefusals = 1 ∷ 2 ∷ 3 ∷ 8 ∷ []
+
+-- `klov_read_index`
+abbrev pub readRefusals : List ℕ
+readRefusals = 1 ∷ 2 ∷ 3 ∷ 19 ∷ 20 ∷ 21 ∷ []
+
+-- `klov_find_entry`
+abbrev pub findRefusals : List ℕ
+findRefusals = 1 ∷ 2 ∷ 3 ∷ 19 ∷ 20 ∷ 21 ∷ 18 ∷ []
+
+-- `klov_dss_packet`
+abbrev pub foundRefusals : List ℕ
+foundRefusals = 1 ∷ 2 ∷ 3 ∷ 19 ∷ 20 ∷ 21 ∷ 18 ∷ 8 ∷ []

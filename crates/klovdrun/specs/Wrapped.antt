@@ -16,14 +16,17 @@ use Rattle.qp7.specs.Walk.{Gathered}
 use Rattle.qp7.specs.Outcome.{Demuxes as Qp7Demuxes, demuxedSays as qp7Says}
 use Rattle.frames.specs.Fetch.{Fills, fetchedSays}
 use Rattle.writing.specs.Outcome.{Writes, writtenSays}
+use Rattle.entries.specs.Entries.{Contents}
+use Rattle.index.specs.Outcome.{Builds, builtSays}
 use Rattle.reader.specs.declared.Reader.{Reader}
 use Rattle.reader.specs.declared.Step.{Step}
 use Rattle.reader.specs.Calls.{Opens}
 use Rattle.reader.specs.History.{OwedCall}
 use Rattle.numbers.specs.declared.Answer.{Answer}
 use Rattle.numbers.specs.declared.Tallied.{Tallied}
+use Rattle.numbers.specs.declared.Entry.{Entry}
 use Rattle.klovdrun.specs.declared.Opened.{Opened}
-use Rattle.numbers.specs.Numbers.{oneNumber, qpNumbers, qp7Numbers, standNumbers, owingNumbers}
+use Rattle.numbers.specs.Numbers.{oneNumber, qpNumbers, qp7Numbers, standNumbers, owingNumbers, builtNumbers}
 
 -- the wrapped call has this outcome with some answer, and r is that answer's numbers
 pub record Carries {A : Type 0} (outcome : A → Type 0) (numbersOf : A → Answer) (r : Answer) : Type 0 where
@@ -51,6 +54,10 @@ FillCarries f q size scratch scratch′ r =
 abbrev pub WriteCarries : List ℕ → List ℕ → List ℕ → List ℕ → Answer → Type 0
 WriteCarries header packets out out′ r =
     Carries (Writes header packets out out′) (λ answer. oneNumber (writtenSays answer)) r
+
+-- an index that is built
+abbrev pub BuildCarries : Said Contents → List ℕ → List ℕ → Answer → Type 0
+BuildCarries contents out out′ r = Carries (Builds contents out out′) (λ answer. builtNumbers (builtSays answer)) r
 
 -- a reader's call that answered so and handed this reader back
 abbrev pub stepTo : Reader → Demuxed → Step
@@ -80,6 +87,10 @@ pub record Tells {A : Type 0} (numbers : List ℕ) (first second : A → ℕ) (o
       × (r .size ≡ why .size) × (r .absent ≡ why .absent)
   pub listed : 0 < r .refusal → isAmong numbers (r .refusal) ≡ true
   pub only-records-lack : OnlyRecordsLack (toldBy r)
+
+-- what an entry tells as an answer does: its refusal, its first packet and its place, size and absent
+abbrev pub ofEntry : Entry → Answer
+ofEntry r = record { refusal = r .refusal; beside = r .beside; first = r .first; second = r .place; size = r .size; absent = r .absent }
 
 -- what a tally tells as an answer does: its refusal, how many frames are announced and handed out, size and absent
 abbrev pub ofTally : Tallied → Answer

@@ -3,6 +3,7 @@
 use blocks::FilePlace;
 use blocks::StreamPlace;
 use numbers::Answer;
+use numbers::Entry;
 use numbers::Tallied;
 use reader::Reader;
 ghost use mathlib.Core.Path.{_≡_};
@@ -19,11 +20,15 @@ ghost use Rattle.qp7.specs.Walk.{qp7Reading};
 ghost use Rattle.frames.specs.Frames.{frameOf};
 ghost use Rattle.frames.specs.Fetch.{fetchFrom, standing};
 ghost use Rattle.tally.specs.Tallies.{tallied};
+ghost use Rattle.index.specs.Reading.{contentsOf, indexRead};
+ghost use Rattle.index.specs.Outcome.{totalled};
+ghost use Rattle.finding.specs.Finding.{entryFound};
+ghost use Rattle.finding.specs.Packet.{packetFound};
 ghost use Rattle.reader.specs.State.{Reached};
 ghost use Rattle.reader.specs.History.{PieceCall, StrictCall, LenientCall};
-ghost use Rattle.numbers.specs.Numbers.{formatNumber, truthNumber, oneNumber, foundNumbers, standNumbers, tallyNumbers};
+ghost use Rattle.numbers.specs.Numbers.{formatNumber, truthNumber, oneNumber, foundNumbers, standNumbers, tallyNumbers, readNumbers, entryNumbers};
 ghost use Rattle.klovdrun.specs.Version.{version};
-ghost use Rattle.klovdrun.specs.Wrapped.{SpCarries, QpCarries, Qp7Carries, FillCarries, WriteCarries, OpenCarries, Advances};
+ghost use Rattle.klovdrun.specs.Wrapped.{SpCarries, QpCarries, Qp7Carries, FillCarries, WriteCarries, BuildCarries, OpenCarries, Advances};
 
 // The version of the boundary.
 const VERSION: u64 = 4;
@@ -235,4 +240,45 @@ pub extern "C" fn klov_write_ds2_sp(header: &[u8], packets: &[u8], out: &mut [u8
 {
     let answer = writing::write_ds2_sp(header, packets, out);
     numbers::of_written(answer)
+}
+
+// First: bytes of the index. Second: entries.
+#[no_mangle]
+pub extern "C" fn klov_build_index(file: &[u8], out: &mut [u8]) -> Answer
+    ensures { λ r. ⌜ BuildCarries (contentsOf (now (file .entry))) (now (out .entry)) (now (out .exit)) r ⌝ }
+{
+    let answer = index::build_index(file, out);
+    numbers::of_built(answer)
+}
+
+// First: entries. Second: packets in all.
+#[no_mangle]
+pub extern "C" fn klov_read_index(file: &[u8], index: &[u8]) -> Answer
+    ensures { λ r. ⌜ r ≡ readNumbers (totalled (indexRead (now (file .entry)) (now (index .entry)))) ⌝ }
+{
+    let answer = index::read_index(file, index);
+    numbers::of_read(answer)
+}
+
+#[no_mangle]
+pub extern "C" fn klov_find_entry(file: &[u8], index: &[u8], packet: usize) -> Entry
+    ensures { λ r. ⌜ r ≡ entryNumbers (entryFound (now (file .entry)) (now (index .entry)) packet) ⌝ }
+{
+    let answer = finding::find_entry(file, index, packet);
+    numbers::of_entry(answer)
+}
+
+// First: 1, the packet of that number.
+#[no_mangle]
+pub extern "C" fn klov_dss_packet(
+    file: &[u8],
+    index: &[u8],
+    packet: usize,
+    out: &mut [u8],
+    counts: &mut [u8],
+) -> Answer
+    ensures { λ r. ⌜ SpCarries (packetFound (now (file .entry)) (now (index .entry)) packet) (now (out .entry)) (now (out .exit)) (now (counts .entry)) (now (counts .exit)) r ⌝ }
+{
+    let answer = finding::dss_packet(file, index, packet, out, counts);
+    numbers::of_packets(answer)
 }

@@ -1,4 +1,4 @@
--- The numbers that cross the boundary to C: what a call of the crates below says, as six numbers or eleven. A refusal is its number, the
+-- The numbers that cross the boundary to C: what a call of the crates below says, as six numbers, seven or eleven. A refusal is its number, the
 -- number beside it, size and absent; an answer has refusal 0, and what a call does not name is 0. Assumes nothing.
 use Prim.Native.Nat.{ℕ}
 use mathlib.Core.Bool.{Bool, cond}
@@ -10,11 +10,15 @@ use Rattle.frames.specs.declared.Found.{Found}
 use Rattle.frames.specs.Fetch.{Stand, inFile, inScratch}
 use Rattle.qp.specs.declared.Totals.{Totals as QpTotals}
 use Rattle.qp7.specs.declared.Totals.{Totals as Qp7Totals}
+use Rattle.entries.specs.declared.Entry.{Entry}
+use Rattle.entries.specs.declared.Totals.{Totals}
+use Rattle.index.specs.declared.Size.{Size}
 use Rattle.tally.specs.declared.FileKind.{FileKind}
 use Rattle.tally.specs.declared.FileKind.the-variants as kinds
 use Rattle.tally.specs.declared.Figures.{Figures}
 use Rattle.numbers.specs.declared.Answer.{Answer}
 use Rattle.numbers.specs.declared.Tallied.{Tallied}
+use Rattle.numbers.specs.declared.Entry.{Entry as Shown}
 
 -- a format's number; none is 0
 abbrev pub formatNumber : AudioFormat → ℕ
@@ -77,6 +81,36 @@ standNumbers said = numbers whereNumber placeNumber said
 -- packets, and in every answer, refused ones too, how many frames are owed afterwards
 abbrev pub owingNumbers : ℕ → Said ℕ → Answer
 owingNumbers owed said = numbersOr (λ n. n) (λ n. owed) owed said
+
+-- bytes of an index, and entries; entries of one that was read, and packets in all
+abbrev pub builtNumbers : Said Size → Answer
+builtNumbers said = numbers (λ size. size .bytes) (λ size. size .entries) said
+
+abbrev pub readNumbers : Said Totals → Answer
+readNumbers said = numbers (λ totals. totals .entries) (λ totals. totals .packets) said
+
+-- an entry's seven numbers
+abbrev pub entryNumbers : Said Entry → Shown
+entryNumbers (answers entry) =
+    record {
+      refusal = 0;
+      beside = 0;
+      number = entry .number;
+      first = entry .first;
+      place = entry .place .0;
+      size = 0;
+      absent = 0;
+    }
+entryNumbers (refusal why) =
+    record {
+      refusal = why .number;
+      beside = why .beside;
+      number = 0;
+      first = 0;
+      place = 0;
+      size = why .size;
+      absent = why .absent;
+    }
 
 -- a tally's eleven numbers
 abbrev pub kindNumber : FileKind → ℕ

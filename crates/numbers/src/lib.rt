@@ -3,6 +3,8 @@
 use detect::AudioFormat;
 use frames::Fetched;
 use frames::Found;
+use index::Built;
+use index::Read;
 use reader::Step;
 use refusals::Refusal;
 use tally::Figures;
@@ -18,9 +20,11 @@ ghost use Rattle.qp7.specs.Outcome.{demuxedSays as qp7Says};
 ghost use Rattle.frames.specs.Fetch.{fetchedSays};
 ghost use Rattle.tally.specs.Tallies.{talliedSays};
 ghost use Rattle.writing.specs.Outcome.{writtenSays};
+ghost use Rattle.index.specs.Outcome.{builtSays, readSays};
+ghost use Rattle.finding.specs.Finding.{foundSays};
 ghost use Rattle.reader.specs.State.{Reached};
 ghost use Rattle.reader.specs.History.{OwedCall};
-ghost use Rattle.numbers.specs.Numbers.{formatNumber, truthNumber, answering, refusing, oneNumber, qpNumbers, qp7Numbers, foundNumbers, standNumbers, owingNumbers, kindNumber, tallyNumbers};
+ghost use Rattle.numbers.specs.Numbers.{formatNumber, truthNumber, answering, refusing, oneNumber, qpNumbers, qp7Numbers, foundNumbers, standNumbers, owingNumbers, kindNumber, tallyNumbers, builtNumbers, readNumbers, entryNumbers};
 
 // What most exports answer: a refusal's number, or 0, and the number beside it; two numbers that the export names; and of a record that cannot
 // be read its size, and how many bytes are absent, which are 0 in every other answer.
@@ -46,6 +50,18 @@ pub struct Tallied {
     pub handed: u64,
     pub short_count: u64,
     pub bytes: u64,
+    pub size: u64,
+    pub absent: u64,
+}
+
+// An entry of an index in seven numbers, of which the first two and the last two are as in an answer.
+#[repr(C)]
+pub struct Entry {
+    pub refusal: u64,
+    pub beside: u64,
+    pub number: u64,
+    pub first: u64,
+    pub place: u64,
     pub size: u64,
     pub absent: u64,
 }
@@ -156,6 +172,63 @@ pub fn of_written(answer: Written) -> Answer
     match answer {
         Written::Bytes(size) => answered(size, 0),
         Written::Refused(why) => refused(why, 0),
+    }
+}
+
+pub fn of_built(answer: Built) -> Answer
+    ensures { λ r. ⌜ r ≡ builtNumbers (builtSays answer) ⌝ }
+{
+    match answer {
+        Built::Index(size) => answered(size.bytes, size.entries),
+        Built::Refused(why) => refused(why, 0),
+    }
+}
+
+pub fn of_read(answer: Read) -> Answer
+    ensures { λ r. ⌜ r ≡ readNumbers (readSays answer) ⌝ }
+{
+    match answer {
+        Read::Accepted(totals) => answered(totals.entries, totals.packets),
+        Read::Refused(why) => refused(why, 0),
+    }
+}
+
+fn shown(entry: entries::Entry) -> Entry
+    ensures { λ r. ⌜ r ≡ entryNumbers (answers entry) ⌝ }
+{
+    let place = entry.place;
+    Entry {
+        refusal: 0,
+        beside: 0,
+        number: entry.number as u64,
+        first: entry.first as u64,
+        place: place.0 as u64,
+        size: 0,
+        absent: 0,
+    }
+}
+
+fn not_shown(why: Refusal) -> Entry
+    ensures { λ r. ⌜ r ≡ entryNumbers (refusal why) ⌝ }
+{
+    let none: u64 = 0;
+    Entry {
+        refusal: why.number,
+        beside: why.beside,
+        number: none,
+        first: none,
+        place: none,
+        size: why.size,
+        absent: why.absent,
+    }
+}
+
+pub fn of_entry(answer: finding::Found) -> Entry
+    ensures { λ r. ⌜ r ≡ entryNumbers (foundSays answer) ⌝ }
+{
+    match answer {
+        finding::Found::At(entry) => shown(entry),
+        finding::Found::Refused(why) => not_shown(why),
     }
 }
 

@@ -82,6 +82,13 @@ pub by-onward : {A B X : Type 0} (said : Said A) (rest : A → Said B) {why : Re
 by-onward (answers a) rest e first then = then a refl e
 by-onward (refusal other) rest {why} e first then = let same : other ≡ why = cc in first (ap refusal same)
 
+-- what goes on from a refusal, and from an answer
+pub onward-refused : {A B : Type 0} {said : Said A} {why : Refusal} (rest : A → Said B) → refusal why ≡ said → onward said rest ≡ refusal why
+onward-refused rest e = rw (← e)
+
+pub onward-answered : {A B : Type 0} {said : Said A} {a : A} (rest : A → Said B) → answers a ≡ said → onward said rest ≡ rest a
+onward-answered rest e = rw (← e)
+
 -- what was answered in the end was first answered, and then gone on with
 pub went-on : {A B : Type 0} {b : B} (said : Said A) (rest : A → Said B) → onward said rest ≡ answers b
     → (a : A) × (said ≡ answers a) × (rest a ≡ answers b)

@@ -161,4 +161,25 @@ impl Refusal {
     {
         Self::by(18, total as u64)
     }
+
+    // An index is under four bytes, or its length field is 0 or not the number of bytes that follow it.
+    pub fn index() -> Self
+        ensures { λ r. ⌜ r ≡ numbered 19 0 ⌝ }
+    {
+        Self::by(19, 0)
+    }
+
+    // An index is of this version, which the call does not read.
+    pub fn index_version(byte: u8) -> Self
+        ensures { λ r. ⌜ r ≡ numbered 20 byte ⌝ }
+    {
+        Self::by(20, byte as u64)
+    }
+
+    // The entry of this number is the first of an index that is not the recording's.
+    pub fn index_entry(number: usize) -> Self
+        ensures { λ r. ⌜ r ≡ numbered 21 number ⌝ }
+    {
+        Self::by(21, number as u64)
+    }
 }

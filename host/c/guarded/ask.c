@@ -19,6 +19,7 @@ struct named {
 
 #define BIT(n) (1ull << (n))
 #define WHOLE (BIT(1) | BIT(2) | BIT(3))
+#define INDEX (BIT(19) | BIT(20) | BIT(21))
 #define SIX {"refusal", "beside", "first", "second", "size", "absent"}
 
 static const struct named exports[EXPORTS] = {
@@ -38,6 +39,10 @@ static const struct named exports[EXPORTS] = {
     [TALLY] = {"klov_tally", 11, {"refusal", "beside", "kind", "start", "blocks", "announced", "handed", "short_count", "bytes", "size", "absent"},
                WHOLE | BIT(4) | BIT(5)},
     [WRITE] = {"klov_write_ds2_sp", 6, SIX, BIT(15) | BIT(16) | BIT(17) | BIT(8)},
+    [BUILD_INDEX] = {"klov_build_index", 6, SIX, WHOLE | BIT(8)},
+    [READ_INDEX] = {"klov_read_index", 6, SIX, WHOLE | INDEX},
+    [FIND_ENTRY] = {"klov_find_entry", 7, {"refusal", "beside", "number", "first", "place", "size", "absent"}, WHOLE | INDEX | BIT(18)},
+    [BY_INDEX] = {"klov_dss_packet", 6, SIX, WHOLE | INDEX | BIT(18) | BIT(8)},
     [OPEN] = {"klov_open", 6, SIX, BIT(10)},
     [PIECE] = {"klov_piece", 6, SIX, BIT(6) | BIT(2) | BIT(7) | BIT(8)},
     [STRICT_END] = {"klov_strict_end", 6, SIX, BIT(6) | BIT(3) | BIT(13) | BIT(14)},
@@ -117,6 +122,12 @@ static void perform_whole(const struct question *q, struct slice b, struct slice
         a = klov_show(file, len, q->x, q->y, b.at, b.len);
     else if (q->export == WRITE)
         a = klov_write_ds2_sp(file, len, q->also.at, q->also.len, b.at, b.len);
+    else if (q->export == BUILD_INDEX)
+        a = klov_build_index(file, len, b.at, b.len);
+    else if (q->export == READ_INDEX)
+        a = klov_read_index(file, len, q->also.at, q->also.len);
+    else if (q->export == BY_INDEX)
+        a = klov_dss_packet(file, len, q->also.at, q->also.len, q->x, b.at, b.len, c.at, c.len);
     memcpy(numbers, &a, sizeof a);
 }
 
@@ -161,6 +172,9 @@ static void perform(const struct question *q, struct slice b, struct slice c, ui
     } else if (q->export == TALLY) {
         klov_tallied t = klov_tally(q->in.at, q->in.len);
         memcpy(numbers, &t, sizeof t);
+    } else if (q->export == FIND_ENTRY) {
+        klov_entry e = klov_find_entry(q->in.at, q->in.len, q->also.at, q->also.len, q->x);
+        memcpy(numbers, &e, sizeof e);
     } else if (q->export >= OPEN) {
         perform_reader(q, b, c, numbers);
     } else {

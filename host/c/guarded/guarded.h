@@ -13,6 +13,8 @@
 enum { PAGE = 4096, BLOCK = 512, HEAD = 6, STREAM = 506, PACKET = 42, FRAME = 56, HOLD = 12288, DS2_START = 1536 };
 /* bytes of a table's word, and words of a segment's entry */
 enum { WORD = 4, QP_WORDS = 4, QP7_WORDS = 3 };
+/* bytes of an index before its version, before its entries, and of an entry */
+enum { LENGTH = 4, FRONT = 5, ENTRY = 12 };
 enum { LIMIT = 268435456, NUMBERS = 11, MOST_FILE = 120000 };
 
 /* ---- guard.c: memory ---- */
@@ -45,13 +47,13 @@ void check_canary(const char *what, const struct area *a, struct slice s, const 
 
 enum export {
     DETECT_FORMAT, DETECT_START, DETECT_TYPE, IS_HEADER, PAYLOAD, DEMUX_DSS, DEMUX_DS2_SP, AT_ONCE, DEMUX_QP, DEMUX_QP7, FRAME_OF,
-    FETCH, SHOW, TALLY, WRITE, OPEN, PIECE, STRICT_END, LENIENT_END, EXPORTS
+    FETCH, SHOW, TALLY, WRITE, BUILD_INDEX, READ_INDEX, FIND_ENTRY, BY_INDEX, OPEN, PIECE, STRICT_END, LENIENT_END, EXPORTS
 };
 
-/* The arguments of a call. `in` is lent to read, and `also` is, by a call that writes a file: its packets. `b` and `c` are the
- * other slices, by their lengths in bytes, and are placed by the asking; `b` stands where `placed` says, if it is given, and is
- * then looked at by the asker. `x`, `y` and `z` are numbers, in the call's order. For an opening `in` is where the answer is to
- * stand, if it is given. */
+/* The arguments of a call. `in` is lent to read, and so is `also`: the packets for a call that writes a file, the index for one
+ * that takes one. `b` and `c` are the other slices, by their lengths in bytes, and are placed by the asking; `b` stands where
+ * `placed` says, if it is given, and is then looked at by the asker. `x`, `y` and `z` are numbers, in the call's order. For an
+ * opening `in` is where the answer is to stand, if it is given. */
 struct question {
     enum export export;
     struct slice in;
@@ -129,6 +131,7 @@ struct lists {
     uint64_t n, segment_count, bytes, handed, shorts;
 };
 
+uint64_t dss_begin(const uint8_t *head, uint64_t block);
 void walk_packets(struct walk *w, struct file f, const struct shape *s, uint64_t packets, uint8_t *out, uint8_t *counts);
 struct answer model_sp(struct file f, bool dss, uint64_t out_len, uint64_t counts_len, uint8_t *out, uint8_t *counts);
 struct answer model_at_once(const struct answer *whole, uint64_t number, uint64_t out_len, uint64_t counts_len);
@@ -157,6 +160,24 @@ uint64_t model_needed(const struct modelled *m, uint64_t len);
 struct answer model_strict(struct modelled *m);
 struct answer model_lenient(struct modelled *m, uint64_t room, uint8_t *out, uint8_t *counts);
 
+/* ---- entries.c: the index of a DSS recording ---- */
+
+/* A recording's own index, of so many entries; none where the recording is refused. */
+struct indexed {
+    struct shape s;
+    uint64_t entries;
+    struct file index;
+};
+
+void put_word(uint8_t *to, uint64_t n);
+uint64_t word_at(const uint8_t *at);
+struct indexed model_index(struct file f, uint8_t *bytes);
+struct answer model_build(const struct indexed *its, uint64_t room);
+struct answer model_read(const struct indexed *its, struct file index);
+struct answer model_find(struct file f, const struct indexed *its, struct file index, uint64_t packet);
+struct answer model_by_index(const struct indexed *its, struct file index, const struct answer *whole, uint64_t packet,
+                             uint64_t out_len, uint64_t counts_len);
+
 /* ---- made.c: files from numbers ---- */
 
 uint64_t draw(uint64_t below);
@@ -175,12 +196,14 @@ void expect_lenient(struct modelled *m, klov_reader *r, uint64_t out_len, uint64
 klov_reader *expect_open(uint64_t kind);
 void edges(void);
 void writings(void);
+void index_calls(struct slice file);
+void indexes(void);
 void largest(void);
 
 /* Where the model writes what must come. */
 extern struct area file_area, piece_area, header_area;
 extern struct lists lists;
-extern uint8_t *want_out, *want_counts;
+extern uint8_t *want_out, *want_counts, *want_index;
 /* How many files were incomplete and complete as announced, in pieces and whole; and of how many, of DSS and of DS2, the strict end answered
  * though they begin swapped. */
 extern uint64_t ruled[2], begun_swapped[2];

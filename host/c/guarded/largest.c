@@ -1,13 +1,13 @@
 /* The largest sizes: files of exactly the limit, which begin and end at inaccessible pages at once, and of one byte more,
- * whole and in a few huge pieces; the longest list of packets, and one packet more. Most of a file is zero pages that are never
- * touched; only the last tests fill one. Rests on whole.c and pieces.c. */
+ * whole and in a few huge pieces; the longest indexes; the longest list of packets, and one packet more. Most of a file is zero
+ * pages that are never touched; only the last tests fill one. Rests on whole.c and pieces.c. */
 #include "guarded.h"
 
 #include <stdio.h>
 #include <string.h>
 
-/* As many packets as a file of the limit has. */
-enum { MOST_PACKETS = 6470444 };
+/* As many packets as a file of the limit has; and where a DSS file's audio starts that has the most blocks, with how many these are. */
+enum { MOST_PACKETS = 6470444, DSS_START = 1024, MOST_ENTRIES = (LIMIT - DSS_START) / BLOCK };
 
 static struct area big;
 
@@ -152,6 +152,117 @@ static void packets_on_the_way(void)
     }
 }
 
+/* A DSS file of the limit's length, over what a test before has left there: every block announces so many packets, with this flag but for the
+ * first block's. */
+static struct file announce_all(uint8_t first_flag, uint8_t flag, uint8_t count)
+{
+    area_allow(&big, 0, big.size, true);
+    memcpy(big.view, "\2dss", 4);
+    for (size_t at = DSS_START; at < LIMIT; at += BLOCK)
+        memcpy(big.view + at, (uint8_t[HEAD]){at == DSS_START ? first_flag : flag, 3, count, 0xFF, 0, 0xFF}, HEAD);
+    area_allow(&big, 0, LIMIT, false);
+    return (struct file){big.view, LIMIT};
+}
+
+/* So many bytes of the index, with the length that says so, and with another byte at a place, if it has that. */
+static void longest_read(const struct area *beside, const struct indexed *its, size_t len, size_t changed)
+{
+    struct slice index = lend_copy(beside, its->index.at, len);
+    uint8_t *bytes = beside->fill + (index.at - beside->view);
+    put_word(bytes, len - LENGTH);
+    if (changed < len)
+        bytes[changed] ^= 1;
+    struct answer want = model_read(its, (struct file){index.at, len});
+    expect(&(struct question){.export = READ_INDEX, .in = {big.view, LIMIT}, .also = index}, &want);
+}
+
+/* One packet by the index, and before that its entry. */
+static void longest_ask(const struct indexed *its, struct slice index, uint64_t n, uint8_t *out, uint8_t *count)
+{
+    struct question q = {.export = FIND_ENTRY, .in = {big.view, LIMIT}, .also = index, .x = n, .b_len = PACKET, .c_len = 1};
+    struct answer want = model_find((struct file){big.view, LIMIT}, its, (struct file){index.at, index.len}, n);
+    expect(&q, &want);
+    q.export = BY_INDEX;
+    want = n < its->s.announced ? answered(1, 0) : refused(18, its->s.announced);
+    if (n < its->s.announced) {
+        want.b = (struct slice){out, PACKET};
+        want.c = (struct slice){count, 1};
+    }
+    expect(&q, &want);
+}
+
+/* Every block announces the most packets. Each begins unswapped, so that no packet needs an earlier block. */
+static void longest_numbers(const struct area *beside)
+{
+    static const uint64_t blocks[] = {0, 262144, MOST_ENTRIES - 1}, packets[] = {0, 1, 254};
+    struct file f = announce_all(0x0F, 0x0F, 255);
+    struct indexed its = model_index(f, want_index);
+    size_t len = its.index.len;
+    check_number("entries", MOST_ENTRIES, its.entries);
+    for (size_t room = len - 1; room <= len + 1; room++) {
+        struct answer want = model_build(&its, room);
+        expect(&(struct question){.export = BUILD_INDEX, .in = {big.view, LIMIT}, .b_len = room}, &want);
+    }
+    const size_t lengths[] = {len, len - 1, len - ENTRY, len + 1, len + ENTRY}, changed[] = {FRONT, len / 2, len - 1};
+    for (size_t i = 0; i < sizeof lengths / sizeof *lengths; i++)
+        longest_read(beside, &its, lengths[i], SIZE_MAX);
+    for (size_t i = 0; i < sizeof changed / sizeof *changed; i++)
+        longest_read(beside, &its, len, changed[i]);
+    struct slice index = lend_copy(beside, its.index.at, len);
+    for (size_t i = 0; i < 3; i++) {
+        struct walk w = {.block = blocks[i]};
+        walk_packets(&w, f, &its.s, 255, want_out, want_counts);
+        for (size_t k = 0; k < 3; k++)
+            longest_ask(&its, index, 255 * blocks[i] + packets[k], want_out + PACKET * packets[k], want_counts + packets[k]);
+    }
+    longest_ask(&its, index, 255ull * MOST_ENTRIES, NULL, NULL);
+    longest_ask(&its, index, (1ull << 32) + 1, NULL, NULL);
+}
+
+/* Every block but perhaps the first announces one packet that is swapped: what is carried to the last comes from the first, or is ours. */
+static void longest_carry(const struct area *beside, uint8_t first_flag)
+{
+    struct file f = announce_all(first_flag, 0x8F, 1);
+    struct indexed its = model_index(f, want_index);
+    struct slice index = lend_copy(beside, its.index.at, its.index.len);
+    struct walk w = {0};
+    for (uint64_t n = 0; n < MOST_ENTRIES; n++) {
+        uint8_t out[PACKET], count;
+        walk_packets(&w, f, &its.s, 1, out, &count);
+        if (n < 2 || n == MOST_ENTRIES / 2 || n == MOST_ENTRIES - 1)
+            longest_ask(&its, index, n, out, &count);
+    }
+}
+
+/* An index that has 2^32 bytes more than its length says. */
+static void longest_lent(void)
+{
+    struct area beside = area_reserved((1ull << 32) + PAGE);
+    about("longest DSS file, with an index of so many pages", beside.size / PAGE);
+    area_allow(&beside, 0, PAGE, true);
+    put_word(beside.view, PAGE - LENGTH);
+    beside.view[LENGTH] = 1;
+    area_allow(&beside, 0, beside.size, false);
+    struct question q = {.export = READ_INDEX, .in = {big.view, LIMIT}, .also = {beside.view, beside.size}};
+    struct answer want = refused(19, 0);
+    expect(&q, &want);
+    area_allow(&beside, 0, 0, false);
+}
+
+static void longest_indexes(void)
+{
+    struct area beside = area_to_read(FRONT + ENTRY * (size_t)(MOST_ENTRIES + 1));
+    about("longest DSS file, with its index,", 255);
+    side = AT_END;
+    longest_numbers(&beside);
+    about("longest DSS file of swapped packets, with its index,", 0x0F);
+    side = AT_START;
+    longest_carry(&beside, 0x0F);
+    about("longest DSS file of swapped packets, with its index,", 0x8F);
+    longest_carry(&beside, 0x8F);
+    longest_lent();
+}
+
 /* Packets that end at an inaccessible page: zeros, but for some at the front, in the middle and at the end. */
 static struct slice many_packets(const struct area *many, uint64_t n)
 {
@@ -232,5 +343,6 @@ void largest(void)
     area_allow(&big, 0, LIMIT, false);
     expect(&(struct question){.export = TALLY, .in = {big.view, LIMIT}}, &want);
     packets_on_the_way();
+    longest_indexes();
     longest_list();
 }

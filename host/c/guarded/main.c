@@ -11,7 +11,9 @@ enum { MADE_FILES = 2400 };
 
 struct area file_area, piece_area, header_area;
 
-_Static_assert(sizeof(klov_answer) == 48 && sizeof(klov_tallied) == 88, "the answers have nothing between their numbers");
+_Static_assert(sizeof(klov_answer) == 48 && sizeof(klov_tallied) == 88 && sizeof(klov_entry) == 56,
+               "the answers have nothing between their numbers");
+_Static_assert(KLOV_INDEX_FRONT == FRONT && KLOV_INDEX_ENTRY == ENTRY, "an index's front and entries");
 _Static_assert(sizeof(klov_reader) == KLOV_READER_SIZE, "a reader's size");
 _Static_assert(_Alignof(klov_reader) == KLOV_READER_ALIGN, "a reader's alignment");
 _Static_assert(offsetof(klov_opened, reader) == sizeof(klov_answer), "the reader stands right after the answer");
@@ -56,11 +58,13 @@ int main(int argc, char **argv)
     lists.segments = memory(1u << 20);
     want_out = memory(80u << 20);
     want_counts = memory(4u << 20);
+    want_index = memory(8u << 20);
     for (int i = 0; i < 2; i++) {
         side = i == 0 ? AT_END : AT_START;
         edges();
         reader_opens();
         writings();
+        indexes();
         for (uint64_t n = 0; n < files; n++)
             made(n);
     }

@@ -10,7 +10,7 @@ static unsigned read_size(bool swapped)
 }
 
 /* DSS: where the first read of a block begins in the payload stream. */
-static uint64_t dss_begin(const uint8_t *head, uint64_t block)
+uint64_t dss_begin(const uint8_t *head, uint64_t block)
 {
     unsigned twice = 2u * head[1] + 2u * (head[0] >> 7);
     unsigned inside = twice < 6 ? 0 : twice - 6;

@@ -3,7 +3,7 @@
 #include "guarded.h"
 
 struct lists lists;
-uint8_t *want_out, *want_counts;
+uint8_t *want_out, *want_counts, *want_index;
 
 static struct file seen_as(struct slice s)
 {
@@ -213,6 +213,7 @@ void whole_calls(struct slice file)
     fetches(file);
     frames(file);
     large_frames();
+    index_calls(file);
     struct answer want = model_tally(seen_as(file), &lists);
     expect(&(struct question){.export = TALLY, .in = file}, &want);
 }

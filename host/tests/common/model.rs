@@ -152,6 +152,12 @@ fn size(swapped: bool) -> usize {
     }
 }
 
+/// Where a DSS block's reads start in the stream.
+fn dss_place(number: usize, block: &[u8]) -> usize {
+    let flag = usize::from(block[0] >> 7);
+    506 * number + (2 * usize::from(block[1]) + 2 * flag).saturating_sub(6).min(506)
+}
+
 /// An SP recording's reads, a list a block: place in the stream, and whether it is swapped.
 fn reads(file: &[u8], kind: Kind, start: usize) -> Vec<Vec<(usize, bool)>> {
     let blocks = blocks(file, start);
@@ -162,8 +168,7 @@ fn reads(file: &[u8], kind: Kind, start: usize) -> Vec<Vec<(usize, bool)>> {
     for (number, block) in blocks.iter().enumerate() {
         if kind == Kind::DssSp {
             swapped = flag(block);
-            let first = (2 * usize::from(block[1]) + 2 * usize::from(swapped)).saturating_sub(6);
-            place = 506 * number + first.min(506);
+            place = dss_place(number, block);
         }
         let mut of_block = Vec::new();
         for _ in 0..block[2] {
@@ -462,4 +467,56 @@ fn written_stream(packets: &[&[u8]]) -> (Vec<u8>, Vec<usize>) {
         }
     }
     (stream, begins)
+}
+
+/// An entry of a DSS recording's index: a block that announces something, by its number, the number of its first packet, and where its reads start.
+#[derive(Debug, Clone, Copy, PartialEq, Eq)]
+pub struct Entry {
+    pub number: usize,
+    pub first: usize,
+    pub place: usize,
+}
+
+/// The entries of a DSS recording, in order.
+pub fn entries(file: &[u8], start: usize) -> Vec<Entry> {
+    let mut first = 0;
+    let mut all = Vec::new();
+    for (number, block) in blocks(file, start).into_iter().enumerate() {
+        if block[2] > 0 {
+            all.push(Entry { number, first, place: dss_place(number, block) });
+        }
+        first += usize::from(block[2]);
+    }
+    all
+}
+
+/// The index that has these entries.
+pub fn index_of(entries: &[Entry]) -> Vec<u8> {
+    let mut index = (1 + 12 * entries.len() as u32).to_be_bytes().to_vec();
+    index.push(1);
+    for entry in entries {
+        [entry.number, entry.first, entry.place].iter().for_each(|&word| index.extend_from_slice(&(word as u32).to_be_bytes()));
+    }
+    index
+}
+
+/// How many entries an index has, and how many packets its DSS file; or why it is not the file's.
+pub fn read_index(file: &[u8], index: &[u8]) -> Answer<(usize, usize)> {
+    let (_, start) = kind_for(file, true)?;
+    if index.len() < 4 {
+        return Err(refused(19, 0));
+    }
+    let (length, after) = index.split_at(4);
+    if after.is_empty() || length.iter().fold(0, |sum, &byte| 256 * sum + usize::from(byte)) != after.len() {
+        return Err(refused(19, 0));
+    }
+    if after[0] != 1 {
+        return Err(refused(20, u64::from(after[0])));
+    }
+    let own = index_of(&entries(file, start));
+    let (own, told): (Vec<&[u8]>, Vec<&[u8]>) = (own[5..].chunks(12).collect(), after[1..].chunks(12).collect());
+    match (0..own.len().max(told.len())).find(|&entry| own.get(entry) != told.get(entry)) {
+        Some(entry) => Err(refused(21, entry as u64)),
+        None => Ok((own.len(), announced(file, start))),
+    }
 }
