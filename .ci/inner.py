@@ -14,7 +14,6 @@ from sources import declared, read, those
 BESIDE = {
     ("recordSays", "crates/qp7/specs/Records.antt"): "what a case of an enum says stands with the enum's other definitions",
     ("countsSay", "crates/tally/specs/Tallies.antt"): "the same",
-    ("carryPast", "crates/sp/specs/Runs.antt"): "laws about runs speak of it, and no contract does",
 }
 
 

@@ -18,9 +18,9 @@ use Rattle.blocks.specs.Headers.{Bytes}
 use Rattle.entries.specs.declared.Entry.{Entry}
 use Rattle.entries.specs.Words.{word32, wordAt}
 use Rattle.entries.specs.Entries.{entryBy}
-use Rattle.entries.specs.Index.{entryBytes, entryAt, entriesBytes}
+use Rattle.entries.specs.Index.{entryBytes, entriesBytes}
 use Rattle.entries.specs.Held.{same, part, firstWrong}
-use Rattle.entries.specs.Inner.{entryPlace, Fits}
+use Rattle.entries.specs.Inner.{entryAt, entryPlace, Fits}
 use Rattle.entries.proofs.Words.{word-stands, word-read}
 use Rattle.entries.proofs.Laying.{entries-long}
 

@@ -5,15 +5,12 @@ use mathlib.Core.List.{List, [], _∷_, _++_}
 use lib.ListN.{length}
 use Rattle.tables.specs.Entries.{inTurn}
 use Rattle.entries.specs.declared.Entry.{Entry}
-use Rattle.entries.specs.Words.{word32, wordAt}
-use Rattle.entries.specs.Entries.{entryBy, Contents}
+use Rattle.entries.specs.Words.{word32}
+use Rattle.entries.specs.Entries.{Contents}
 
--- an entry's twelve bytes: three numbers of four; and the entry whose bytes stand at place i of some bytes
+-- an entry's twelve bytes: three numbers of four
 abbrev pub entryBytes : Entry → List ℕ
 entryBytes e = word32 (e .number) ++ word32 (e .first) ++ word32 (e .place .0)
-
-abbrev pub entryAt : List ℕ → ℕ → Entry
-entryAt x i = entryBy (wordAt x i) (wordAt x (i + 4)) (wordAt x (i + 8))
 
 -- the entries' bytes, one after another
 abbrev pub entriesBytes : List Entry → List ℕ

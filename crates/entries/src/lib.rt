@@ -11,9 +11,9 @@ ghost use Rattle.blocks.specs.Headers.{announcedIn};
 ghost use Rattle.whole.specs.Admissions.{Sound, announcedBy};
 ghost use Rattle.entries.specs.Words.{word32, wordAt};
 ghost use Rattle.entries.specs.Entries.{entryOf, entriesBy};
-ghost use Rattle.entries.specs.Index.{entryBytes, entryAt, entriesBytes};
+ghost use Rattle.entries.specs.Index.{entryBytes, entriesBytes};
 ghost use Rattle.entries.specs.Held.{same, firstWrong};
-ghost use Rattle.entries.specs.Inner.{Lays, entryPlace, Fits};
+ghost use Rattle.entries.specs.Inner.{Lays, entryAt, entryPlace, Fits};
 
 // The bytes of an entry.
 pub const ENTRY: usize = 12;

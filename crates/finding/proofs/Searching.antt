@@ -20,8 +20,8 @@ use Rattle.whole.proofs.Admissions.{few-blocks}
 use Rattle.entries.specs.declared.Entry.{Entry}
 use Rattle.entries.specs.declared.Totals.{Totals}
 use Rattle.entries.specs.Entries.{entryBy, entriesBy, Contents, contentsIn}
-use Rattle.entries.specs.Index.{entryAt, entriesBytes}
-use Rattle.entries.specs.Inner.{entryPlace}
+use Rattle.entries.specs.Index.{entriesBytes}
+use Rattle.entries.specs.Inner.{entryAt, entryPlace}
 use Rattle.entries.proofs.Entries.{each-stands, entry-fits}
 use Rattle.entries.proofs.Laying.{entries-long}
 use Rattle.entries.proofs.Held.{entry-read}

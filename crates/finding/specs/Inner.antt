@@ -10,8 +10,7 @@ use Rattle.sp.specs.Inner.{Readable}
 use Rattle.entries.specs.declared.Entry.{Entry}
 use Rattle.entries.specs.declared.Totals.{Totals}
 use Rattle.entries.specs.Words.{wordAt}
-use Rattle.entries.specs.Index.{entryAt}
-use Rattle.entries.specs.Inner.{entryPlace}
+use Rattle.entries.specs.Inner.{entryAt, entryPlace}
 use Rattle.finding.specs.declared.Found.{Found}
 use Rattle.finding.specs.Finding.{foundSays}
 use Rattle.finding.specs.Agreement.{HasPacket}

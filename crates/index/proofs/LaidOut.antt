@@ -12,8 +12,9 @@ use Rattle.whole.specs.Admissions.{Sound}
 use Rattle.whole.proofs.Admissions.{few-blocks}
 use Rattle.entries.specs.declared.Entry.{Entry}
 use Rattle.entries.specs.Entries.{entryBy, entriesBy, contentsIn}
-use Rattle.entries.specs.Index.{entryAt, entriesBytes, frontBytes, edition1, indexOf}
+use Rattle.entries.specs.Index.{entriesBytes, frontBytes, edition1, indexOf}
 use Rattle.entries.specs.Described.{entry}
+use Rattle.entries.specs.Inner.{entryAt}
 use Rattle.entries.proofs.Entries.{each-stands, entry-fits, entries-few}
 use Rattle.entries.proofs.Laying.{index-long}
 use Rattle.entries.proofs.Held.{entry-read}

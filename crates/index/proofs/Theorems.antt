@@ -11,6 +11,7 @@ use lib.ListN.{length, getD, take, drop, length-take, length-drop}
 use lib.Seq.{drop-cons, ext-getD, getD-take, length-take-le}
 use lib.Dec.{eqb, leb}
 use Rattle.tables.specs.Settled.{SettledAs, SettledResult}
+use Rattle.tables.specs.Lent.{Leaves}
 use Rattle.tables.specs.Entries.{inTurn, fronted}
 use Rattle.tables.proofs.Cases.{by-order, never}
 use Rattle.tables.proofs.Lent.{leaves-at, over-leaves}
@@ -30,7 +31,6 @@ use Rattle.entries.specs.Entries.{entryBy, entriesBy, Contents, contentsIn}
 use Rattle.entries.specs.Index.{entriesBytes, edition1, indexOf, sizeOf}
 use Rattle.entries.specs.Held.{part, isRest, firstWrong}
 use Rattle.entries.specs.Described.{Described}
-use Rattle.entries.specs.Inner.{Lays}
 use Rattle.entries.proofs.Entries.{entries-few}
 use Rattle.entries.proofs.Described.{entries-described}
 use Rattle.entries.proofs.Held.{same-is, same-if, all-long, all-right, wrong-leads}
@@ -197,7 +197,7 @@ module _ (f out out′ : List ℕ) (answer : Built) (b : Builds (contentsOf f) o
   module _ (size : Size) (e : builtSays answer ≡ answers size) where
     -- An accepted one leaves the index in front of the output, and every other byte, and the length, as it was; and its answer says how many bytes
     -- the index has, and how many entries.
-    pub accepted-writes : (c : Contents) × (contentsOf f ≡ answers c) × (size .bytes ≡ sizeOf c) × (size .entries ≡ length (c .entries)) × Lays out 0 (indexOf c) out′
+    pub accepted-writes : (c : Contents) × (contentsOf f ≡ answers c) × (size .bytes ≡ sizeOf c) × (size .entries ≡ length (c .entries)) × Leaves out 0 (sizeOf c) (λ i. getD (indexOf c) i 0) out′
         × (sizeOf c ≤ length out)
     unfolding inRoom
     accepted-writes =
@@ -210,7 +210,7 @@ module _ (f out out′ : List ℕ) (answer : Built) (b : Builds (contentsOf f) o
           v .0,
           for-the-answer (λ (x : Size). size .bytes ≡ x .bytes) (sym (w .2)) refl,
           for-the-answer (λ (x : Size). size .entries ≡ x .entries) (sym (w .2)) refl,
-          subst (Lays out 0 (indexOf c)) (sym laid) (over-leaves (sizeOf c) (λ i. getD (indexOf c) i 0) out room),
+          subst (Leaves out 0 (sizeOf c) (λ i. getD (indexOf c) i 0)) (sym laid) (over-leaves (sizeOf c) (λ i. getD (indexOf c) i 0) out room),
           room,
         )
 
