@@ -118,7 +118,7 @@ extern "C" {
 /* Words of a segment's entry in a table of QP, and in one of QP7. */
 #define KLOV_QP_WORDS 4u
 #define KLOV_QP7_WORDS 3u
-/* Bytes of an index before its entries, and of an entry. */
+/* Bytes of an index of version 1 before its entries, and of an entry. */
 #define KLOV_INDEX_FRONT 5u
 #define KLOV_INDEX_ENTRY 12u
 /* A reader's size and alignment. */
@@ -409,7 +409,7 @@ static inline int klov_refusal_sentence(char *text, size_t room, const klov_answ
     case KLOV_REFUSED_INDEX_VERSION:
         return snprintf(text, room, "the index is of version %llu, which the call does not read", beside);
     case KLOV_REFUSED_INDEX_ENTRY:
-        return snprintf(text, room, "the index is another recording's: its entry %llu differs, is cut, is missing or is one too many", beside);
+        return snprintf(text, room, "the index is not this recording's: its entry %llu differs, is cut, is missing or is one too many", beside);
     default:
         return snprintf(text, room, "refusal %llu, which is not known here, with %llu", number, beside);
     }

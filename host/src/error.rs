@@ -78,7 +78,7 @@ impl fmt::Display for Refusal {
             Refusal::BEYOND => write!(to, "there is no packet of that number: the recording announces {beside}"),
             Refusal::INDEX => write!(to, "this is not an index: its first four bytes are 0, or not how many follow them, or are not there"),
             Refusal::INDEX_VERSION => write!(to, "the index is of version {beside}, which the call does not read"),
-            Refusal::INDEX_ENTRY => write!(to, "the index is another recording's: its entry {beside} differs, is cut, is missing or is one too many"),
+            Refusal::INDEX_ENTRY => write!(to, "the index is not this recording's: its entry {beside} differs, is cut, is missing or is one too many"),
             other => write!(to, "refusal {other}, which is not known here, with {beside}"),
         }
     }

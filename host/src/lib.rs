@@ -71,7 +71,7 @@ pub const fn dss_start(first: u8) -> FilePlace {
 pub const QP_WORDS: usize = 4;
 /// Words of a QP7 segment's entry in a table.
 pub const QP7_WORDS: usize = 3;
-/// Bytes of an index before its entries.
+/// Bytes of an index of version 1 before its entries.
 pub const INDEX_FRONT: usize = 5;
-/// Bytes of an entry of an index.
+/// Bytes of an entry of an index of version 1.
 pub const INDEX_ENTRY: usize = 12;

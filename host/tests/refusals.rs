@@ -459,5 +459,5 @@ fn every_refusal_has_a_sentence_of_its_own() {
     assert_eq!(sentence(4, 506, 0, 2), "a record should begin at place 506 of the payload stream: 2 of its first 2 bytes are missing");
     assert_eq!(sentence(18, 13, 0, 0), "there is no packet of that number: the recording announces 13");
     assert_eq!(sentence(20, 2, 0, 0), "the index is of version 2, which the call does not read");
-    assert_eq!(sentence(21, 7, 0, 0), "the index is another recording's: its entry 7 differs, is cut, is missing or is one too many");
+    assert_eq!(sentence(21, 7, 0, 0), "the index is not this recording's: its entry 7 differs, is cut, is missing or is one too many");
 }

@@ -27,7 +27,7 @@ one-said one alone room =
     (λ h. room-decides one room .0 (omega (arith, alone)) ∙ ap answers alone ∙ simp (le-leb 1 room h))
 
 -- and what is left of it is packet k of the other reading, in front
-pub one-left : (one r : Reading) (k : ℕ) → OnePacket one r k → (out out′ counts counts′ : List ℕ) → Written one out out′ counts counts′
+one-left : (one r : Reading) (k : ℕ) → OnePacket one r k → (out out′ counts counts′ : List ℕ) → Written one out out′ counts counts′
     → Leaves out 0 42 (λ i. getD (packetAt r k) i 0) out′ × Leaves counts 0 1 (λ i. fileCountAt r k) counts′
 one-left one r k is out out′ counts counts′ w =
     let here = packets-stand one out out′ counts counts′ w 0 (omega (arith, is .alone)) in (

@@ -55,13 +55,10 @@ module _ (f : List ℕ) (a n : ℕ) where
   pub before-silent : (b number first count : ℕ) → b < n → (count ≡ countOf f a b) × (count ≤ 255) → count ≡ 0
       → Before f a n b number first → Before f a n (b + 1) number first
   before-silent b number first count h is none w =
-      record {
-        within = omega arith;
-        number-is = omega (arith, entries-count f a b, w .number-is, is .0);
-        number-few = omega (arith, w .number-few);
-        first-is = omega (arith, announced-more f a b, w .first-is, is .0);
-        first-few = omega (arith, w .first-few);
-      }
+      let no-entry : number + 0 ≡ number = omega arith in
+      let no-packet : first + count ≡ first = omega arith in
+      subst (Before f a n (b + 1) number) no-packet
+      (subst (λ (m : ℕ). Before f a n (b + 1) m (first + count)) no-entry (before-next b number first count 0 h is (omega arith) w))
 
   -- after the last block
   pub before-none : (b number first : ℕ) → n ≤ b → Before f a n b number first

@@ -115,7 +115,7 @@ module _ (f : List ℕ) (a : ℕ) where
       (λ silent. subst (AllStand (b + 1) none) (sym (entries-same b silent)) before))
 
   -- numbers of blocks, packets and places are far below 2^32
-  pub entry-small : (n : ℕ) (e : Entry) → Bytes f → n ≤ 524288 → OfBlock n e
+  entry-small : (n : ℕ) (e : Entry) → Bytes f → n ≤ 524288 → OfBlock n e
       → (e .number < 524288) × (e .first ≤ 133693185) × (e .place .0 ≤ 506 * 524288)
   entry-small n e bytes few o =
       rw (o .is) (

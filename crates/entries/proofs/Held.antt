@@ -33,7 +33,7 @@ same-is (x ∷ xs) (y ∷ ys) e =
     let w = both-hold (eqb x y) (same xs ys) e in
     cc (eqb-true x y (w .0), same-is xs ys (w .1))
 
-pub same-self : (xs : List ℕ) → same xs xs ≡ true
+same-self : (xs : List ℕ) → same xs xs ≡ true
 unfolding same
 same-self [] = refl
 same-self (x ∷ xs) = simp (eq-eqb x x refl, same-self xs)

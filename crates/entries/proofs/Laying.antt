@@ -10,6 +10,7 @@ use Rattle.tables.proofs.Lent.{leaves-none, leaves-first, leaves-more, leaves-j
 use Rattle.tables.proofs.Entries.{in-turn-long}
 use Rattle.entries.specs.declared.Entry.{Entry}
 use Rattle.entries.specs.Words.{word32}
+use Rattle.entries.specs.Entries.{entryBy}
 use Rattle.entries.specs.Index.{entryBytes, entriesBytes, frontBytes, indexBytes}
 use Rattle.entries.specs.Inner.{Lays}
 
@@ -42,3 +43,7 @@ entries-long entries = in-turn-long entryBytes 12 (λ e. refl) entries
 pub index-long : (head : List ℕ) (entries : List Entry) → length (indexBytes head entries) ≡ 4 + length head + 12 * length entries
 index-long head entries =
     length-append (frontBytes head (length entries)) (entriesBytes entries) ∙ omega (arith, entries-long entries)
+
+-- Twelve bytes of an entry, each another: a number's highest byte stands first.
+pub twelve-bytes : entryBytes (entryBy 0x01020304 0x05060708 0x090A0B0C) ≡ 1 ∷ 2 ∷ 3 ∷ 4 ∷ 5 ∷ 6 ∷ 7 ∷ 8 ∷ 9 ∷ 10 ∷ 11 ∷ 12 ∷ []
+twelve-bytes = refl

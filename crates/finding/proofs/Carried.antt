@@ -46,7 +46,7 @@ module _ (f : List ℕ) (rec : Recording) where
   pub into-none : carriedInto f rec 0 ≡ 0
   into-none = ap (carryPast s 0) (runs-none f a) ∙ carry-none s 0
 
-  pub into-next : (b : ℕ) → carriedInto f rec (b + 1) ≡ runEnd s (carriedInto f rec b) (dssRun f a b) .carry
+  into-next : (b : ℕ) → carriedInto f rec (b + 1) ≡ runEnd s (carriedInto f rec b) (dssRun f a b) .carry
   into-next b =
       by-order 0 (countOf f a b)
       (λ some.
@@ -97,7 +97,7 @@ module _ (f : List ℕ) (rec : Recording) where
     pub alone-total : total (alone f rec w) ≡ 1
     alone-total = packets-of _ [] ∙ omega (arith, packets-none)
 
-    pub alone-stands : walkAt (alone f rec w) 0 ≡ w
+    alone-stands : walkAt (alone f rec w) 0 ≡ w
     alone-stands = stands-first s (w .carry) _ [] 0 (omega arith) ∙ steps-none s w
 
     pub alone-written : (out out′ counts counts′ : List ℕ) {after : ℕ} (v : Walk) → v ≡ w
@@ -107,6 +107,10 @@ module _ (f : List ℕ) (rec : Recording) where
         (subst (λ (u : Walk). RunWritten s (506 * rec .blocks) u 0 1 out out′ counts counts′ after) is r)
 
   module _ (p : ℕ) (entry : Entry) (h : HasPacket f rec p entry) where
+    -- the block's reads begin where the entry says
+    begins : runBegin (carriedInto f rec (entry .number)) (dssRun f a (entry .number)) ≡ beginsBy f rec entry
+    begins = cc (ap (λ (e : Entry). e .place) (h .is))
+
     -- by its entry a packet is read where the whole reading reads it
     pub stands-there : walkAt (readingOf f rec dssRuns) p ≡ standsBy f rec entry p
     stands-there =
@@ -116,9 +120,6 @@ module _ (f : List ℕ) (rec : Recording) where
         ap (walkAt (readingOf f rec dssRuns)) number
         ∙ dss-stands s f a (rec .blocks) b (p - entry .first) (h .there) (omega (arith, first, h .from, h .below))
         ∙ ap (λ (w : Walk). steps s w (p - entry .first)) begins
-      where
-        begins : runBegin (carriedInto f rec (entry .number)) (dssRun f a (entry .number)) ≡ beginsBy f rec entry
-        begins = cc (ap (λ (e : Entry). e .place) (h .is))
 
     -- and by what the code works out
     pub worked-out : {k place carry : ℕ} {flag swap : Bool} → k ≡ p - entry .first → flag ≡ swapOf f a (entry .number) → place ≡ entry .place .0 + reach flag k
@@ -126,7 +127,6 @@ module _ (f : List ℕ) (rec : Recording) where
         → _≡_ {A = Walk} (record { place = place; carry = carry; swap = swap }) (standsBy f rec entry p)
     worked-out {k} {place} {carry} {flag} {swap} number is at by with =
         let w = beginsBy f rec entry in
-        let begins : runBegin (carriedInto f rec (entry .number)) (dssRun f a (entry .number)) ≡ w = cc (ap (λ (e : Entry). e .place) (h .is)) in
         let there : place ≡ steps s w k .place = at ∙ ap (λ (x : Bool). entry .place .0 + reach x k) is ∙ sym (steps-place s w k) in
         let parity-is : swap ≡ steps s w k .swap = by ∙ ap (λ (x : Bool). parity x k) is ∙ sym (steps-swap s w k) in
         let carried : carry ≡ steps s w k .carry = with ∙ ap (λ (v : Walk). steps s v k .carry) begins in

@@ -65,7 +65,7 @@ module _ (f : List ℕ) (rec : Recording) (x : List ℕ) (front : ℕ) (sound : 
   first-read i h = ap (λ (e : Entry). e .first) (read-at i h)
 
   -- so that the index can be searched
-  pub searchable : front ≤ length x → Searchable x front (totalsOf (contentsIn f rec))
+  searchable : front ≤ length x → Searchable x front (totalsOf (contentsIn f rec))
   searchable room =
       record {
         there = omega (arith, ap length rest, length-drop front x, entries-long entries);
@@ -75,7 +75,7 @@ module _ (f : List ℕ) (rec : Recording) (x : List ℕ) (front : ℕ) (sound : 
       }
 
   -- and the entry at which the numbers cross a packet's is the last that begins at or before it
-  pub crossed-is-last : (p i : ℕ) → Crosses x front (length entries) p i → entryAt x (entryPlace front i) ≡ lastIn p entries
+  crossed-is-last : (p i : ℕ) → Crosses x front (length entries) p i → entryAt x (entryPlace front i) ≡ lastIn p entries
   crossed-is-last p i w =
       read-at i (w .inside)
       ∙ sym (last-is p none none entries i (w .inside) (omega (arith, first-read i (w .inside), w .begins))

@@ -12,10 +12,11 @@ use lib.Dec.{leb}
 use Rattle.tables.specs.Settled.{SettledAs, SettledResult}
 use Rattle.tables.specs.Lent.{Leaves}
 use Rattle.tables.proofs.Cases.{by-order}
+use Rattle.blocks.specs.Headers.{Bytes}
 use Rattle.refusals.specs.declared.Refusal.{Refusal}
 use Rattle.refusals.specs.Numbers.{numbered}
 use Rattle.refusals.specs.Said.{Said, answers, refuses, refusal, demand, onward}
-use Rattle.refusals.proofs.Said.{for-the-answer, by-said, by-onward, went-on, onward-refused, onward-answered, only-one, readFrom}
+use Rattle.refusals.proofs.Said.{for-the-answer, by-said, by-onward, went-on, onward-refused, onward-answered, onward-twice, only-one, readFrom}
 use Rattle.whole.specs.declared.Recording.{Recording}
 use Rattle.whole.specs.Admissions.{admission}
 use Rattle.sp.specs.declared.Demuxed.{Demuxed}
@@ -29,7 +30,7 @@ use Rattle.entries.specs.declared.Entry.{Entry}
 use Rattle.entries.specs.Entries.{Contents}
 use Rattle.entries.specs.Index.{indexOf}
 use Rattle.index.specs.Reading.{contentsOf, readBeside, indexRead}
-use Rattle.index.proofs.Theorems.{its-index-is-read, every-reading-has-one}
+use Rattle.index.proofs.Theorems.{only-one-index, its-index-is-read, every-reading-has-one}
 use Rattle.finding.specs.declared.Found.the-variants.{At, Refused}
 use Rattle.finding.specs.Finding.{lastIn, foundIn, foundBeside, entryFound, foundSays}
 use Rattle.finding.specs.Packet.{standsBy, byEntry, packetBeside, packetFound}
@@ -41,17 +42,19 @@ use Rattle.finding.proofs.find_entry.Reads as finds-reads
 use Rattle.finding.proofs.dss_packet.Kinds as packet
 use Rattle.finding.proofs.dss_packet.Reads as packet-reads
 
--- going on twice
-on-and-on : {A B C : Type 0} (said : Said A) (rest : A → Said B) (more : B → Said C)
-    → onward said (λ a. onward (rest a) more) ≡ onward (onward said rest) more
-on-and-on (answers a) rest more = refl
-on-and-on (refusal why) rest more = refl
-
 module _ (f x : List ℕ) (p : ℕ) where
   -- Finding is reading the index, all of it, and then looking the number up: whatever reading is refused by, finding is, and 18 comes after that.
   pub found-by-reading : entryFound f x p ≡ onward (indexRead f x) (foundIn p)
   unfolding entryFound indexRead
-  found-by-reading = on-and-on (admission f true false) (λ rec. readBeside f rec x) (foundIn p)
+  found-by-reading = onward-twice (admission f true false) (λ rec. readBeside f rec x) (foundIn p)
+
+  -- So an entry is found only in the file's own index, byte for byte, and so is a packet.
+  pub found-only-in-its-index : Bytes x → (entry : Entry) → entryFound f x p ≡ answers entry
+      → (c : Contents) × (contentsOf f ≡ answers c) × (x ≡ indexOf c)
+  found-only-in-its-index bytes entry e =
+      let w = went-on (indexRead f x) (foundIn p) (sym found-by-reading ∙ e) in
+      let v = only-one-index f x (w .0) bytes (w .1) in
+      (w .0, v .0, v .1)
 
   -- The entry found for a packet is that of the block which has the packet.
   pub entry-has-the-packet : (entry : Entry) → entryFound f x p ≡ answers entry
@@ -83,6 +86,9 @@ module _ (f x : List ℕ) (p : ℕ) where
       let w = went-on (admission f true false) (λ rec. packetBeside f rec x p) e in
       let v = went-on (foundBeside f (w .0) x p) (λ entry. answers (byEntry f (w .0) p entry)) (w .2) in
       (w .0, v .0, w .1, onward-answered (λ rec. foundBeside f rec x p) (sym (w .1)) ∙ v .1, cc (v .2))
+
+  pub packet-only-by-its-index : Bytes x → (one : Reading) → packetFound f x p ≡ answers one → (c : Contents) × (contentsOf f ≡ answers c) × (x ≡ indexOf c)
+  packet-only-by-its-index bytes one e = let w = found-for-packet one e in found-only-in-its-index bytes (w .1) (w .3)
 
   -- The packet found through an index is the whole reading's, bytes and count: of padded packets too, and with the carried byte of a swapped one, be
   -- it an earlier block's.

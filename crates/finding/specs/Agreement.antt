@@ -10,7 +10,7 @@ use Rattle.whole.specs.declared.Recording.{Recording}
 use Rattle.entries.specs.declared.Entry.{Entry}
 use Rattle.entries.specs.Entries.{entryOf, Contents}
 
--- the entry of a block of the recording that has packet p: its first packet, or one of as many after it as the block announces
+-- the entry of a block of the recording that has packet p: its first packet or a later one, of as many in all as the block announces
 pub record HasPacket (f : List ℕ) (rec : Recording) (p : ℕ) (entry : Entry) : Type 0 where
   pub there : entry .number < rec .blocks
   pub is : entry ≡ entryOf f (rec .start .0) (entry .number)

@@ -7,7 +7,7 @@ use mathlib.Core.Bool.{true, false}
 use native.Mathlib.Omega.{arith}
 use borrow.Author.Tests.{le-leb, lt-leb, eq-eqb, eqb-true, leb-true}
 use denote.Ref.{now}
-use lib.ListN.{length, getD, take, drop, length-take, length-drop}
+use lib.ListN.{length, getD, take, drop}
 use lib.Seq.{drop-cons, ext-getD, getD-take, length-take-le}
 use lib.Dec.{eqb, leb}
 use Rattle.tables.specs.Settled.{SettledAs, SettledResult}
@@ -33,8 +33,8 @@ use Rattle.entries.specs.Held.{part, isRest, firstWrong}
 use Rattle.entries.specs.Described.{Described}
 use Rattle.entries.proofs.Entries.{entries-few}
 use Rattle.entries.proofs.Described.{entries-described}
-use Rattle.entries.proofs.Held.{same-is, same-if, all-long, all-right, wrong-leads}
-use Rattle.entries.proofs.Laying.{entries-long, index-long}
+use Rattle.entries.proofs.Held.{same-is, same-if, part-is, all-long, all-right, wrong-leads}
+use Rattle.entries.proofs.Laying.{index-long}
 use Rattle.index.specs.declared.Size.{Size}
 use Rattle.index.specs.declared.Built.{Built}
 use Rattle.index.specs.declared.Built.the-variants as built
@@ -54,14 +54,14 @@ use Rattle.index.proofs.read_index.Kinds as reads
 use Rattle.index.proofs.read_index.Reads as reads-reads
 
 -- what an index of a file speaks of is the recording's
-pub spoken-of : (f : List ℕ) (c : Contents) → contentsOf f ≡ answers c
+spoken-of : (f : List ℕ) (c : Contents) → contentsOf f ≡ answers c
     → (rec : Recording) × (admission f true false ≡ answers rec) × Sound f rec × (contentsIn f rec ≡ c)
 unfolding contentsOf
 spoken-of f c e =
     let w = went-on (admission f true false) (λ rec. answers (contentsIn f rec)) e in
     (w .0, w .1, sound f true false (w .0) (w .1), cc)
 
-pub contents-of : (f : List ℕ) (rec : Recording) → admission f true false ≡ answers rec → contentsOf f ≡ answers (contentsIn f rec)
+contents-of : (f : List ℕ) (rec : Recording) → admission f true false ≡ answers rec → contentsOf f ≡ answers (contentsIn f rec)
 unfolding contentsOf
 contents-of f rec e = onward-answered (λ rec. answers (contentsIn f rec)) (sym e)
 
@@ -132,33 +132,27 @@ room-decides f c room e =
       (λ less. rw (← long) (simp (e, lt-leb (sizeOf c) room (omega (arith, long))))),
     )
 
+-- A file that is refused is refused so whatever room there is.
+pub refused-before-room : (f : List ℕ) (why : Refusal) (room : ℕ) → contentsOf f ≡ refusal why → sized (inRoom (contentsOf f) room) ≡ refusal why
+unfolding inRoom
+refused-before-room f why room e = rw e
+
 -- the part that `firstWrong` counts to is wrong, where anything is
 first-wrong : (entries : List Entry) (rest : List ℕ) → (rest ≡ entriesBytes entries → ⊥) → FirstWrong entries rest (firstWrong entries rest)
 first-wrong entries rest other =
+    let k = firstWrong entries rest in
+    let leads = wrong-leads entries rest in
     record {
-      within = wrong-leads entries rest .within;
-      before = λ i h. same-is (part i rest) (part i (entriesBytes entries)) (wrong-leads entries rest .before i h);
-      wrong = λ e.
-          by-order (firstWrong entries rest) (length entries)
-          (λ h.
-          never (same-if (part (firstWrong entries rest) rest) (part (firstWrong entries rest) (entriesBytes entries)) e) (wrong-leads entries rest .stops h))
-          (λ all. other (all-right entries rest all (all-long entries rest all (ends e all))));
+      within = leads .within;
+      before = λ i h.
+          same-is (part i rest) (part i (entriesBytes entries)) (leads .before i h)
+          ∙ part-is entries (entryBy 0 0 0) i (omega (arith, leads .within));
+      wrong = λ h e.
+          never (same-if (part k rest) (part k (entriesBytes entries)) (e ∙ sym (part-is entries (entryBy 0 0 0) k h))) (leads .stops h);
+      too-many = λ all.
+          by-order (12 * length entries) (length rest) (λ more. omega (arith, all, more))
+          (λ most. absurd (other (all-right entries rest (omega (arith, all)) (all-long entries rest (omega (arith, all)) most))));
     }
-  where
-    ends : part (firstWrong entries rest) rest ≡ part (firstWrong entries rest) (entriesBytes entries) → length entries ≤ firstWrong entries rest
-        → length rest ≤ 12 * length entries
-    ends e all =
-        let n : firstWrong entries rest ≡ length entries = omega (arith, wrong-leads entries rest .within) in
-        let same : part (length entries) rest ≡ part (length entries) (entriesBytes entries) = rw n at e in
-        omega (
-          arith,
-          ap length same,
-          length-take 12 (drop (12 * length entries) rest),
-          length-drop (12 * length entries) rest,
-          length-take 12 (drop (12 * length entries) (entriesBytes entries)),
-          length-drop (12 * length entries) (entriesBytes entries),
-          entries-long entries,
-        )
 
 -- the same of a refusal
 abbrev Why : List ℕ → List Entry → Refusal → Type 0
@@ -215,7 +209,7 @@ module _ (f out out′ : List ℕ) (answer : Built) (b : Builds (contentsOf f) o
         )
 
     -- The bytes that were built are the file's index, and read back.
-    pub built-is : (c : Contents) × (contentsOf f ≡ answers c) × (take (size .bytes) out′ ≡ indexOf c)
+    pub built-is : (c : Contents) × (contentsOf f ≡ answers c) × (take (size .bytes) out′ ≡ indexOf c) × (size .entries ≡ length (c .entries))
     built-is =
         let w = accepted-writes in
         let c = w .0 in
@@ -227,16 +221,11 @@ module _ (f out out′ : List ℕ) (answer : Built) (b : Builds (contentsOf f) o
               (λ i h.
               let inside : i < sizeOf c = omega (arith, long) in
               getD-take (size .bytes) out′ i 0 (omega (arith, w .2)) ∙ leaves-at (w .4) i inside),
+          w .3,
         )
 
     pub built-is-read : (c : Contents) × (indexRead f (take (size .bytes) out′) ≡ answers c) × (size .entries ≡ length (c .entries))
-    built-is-read =
-        let w = built-is in
-        let v = accepted-writes in (
-          w .0,
-          ap (indexRead f) (w .2) ∙ its-index-is-read f (w .0) (w .1),
-          for-the-answer (λ (c : Contents). size .entries ≡ length (c .entries)) (sym (v .1) ∙ w .1) (v .3),
-        )
+    built-is-read = let w = built-is in (w .0, ap (indexRead f) (w .2) ∙ its-index-is-read f (w .0) (w .1), w .3)
 
     -- And what reading accepts for the file is what was built, byte for byte.
     pub read-is-built : (x : List ℕ) (c : Contents) → Bytes x → indexRead f x ≡ answers c → x ≡ take (size .bytes) out′
@@ -260,13 +249,13 @@ build-index-settled κs a x y s t p q = only-built p q
 pub read-index-settled : SettledResult 2 reads.ps reads.r reads-reads.Post
 read-index-settled κs a x y s t p q = only-one readSays (readFrom read.Accepted read.Refused) read-back x y _ p q
 
--- Where no block announces anything the index is 00 00 00 01 01. With one announcing block, number 1, whose reads start at its front, after 12
--- packets, it is 00 00 00 0D 01, then 00 00 00 01, 00 00 00 0C, 00 00 01 FA.
+-- Where no block announces anything the index is 00 00 00 01 01. With one entry of the numbers 01020304, 05060708 and 090A0B0C, each as four bytes are
+-- written, it is 00 00 00 0D 01, and then those bytes in that order.
 pub none-announcing : (c : Contents) → c .entries ≡ [] → indexOf c ≡ 0 ∷ 0 ∷ 0 ∷ 1 ∷ 1 ∷ []
 unfolding inTurn
 none-announcing c none = rw none
 
-pub one-entry : (c : Contents) → c .entries ≡ entryBy 1 12 506 ∷ []
-    → indexOf c ≡ 0 ∷ 0 ∷ 0 ∷ 13 ∷ 1 ∷ 0 ∷ 0 ∷ 0 ∷ 1 ∷ 0 ∷ 0 ∷ 0 ∷ 12 ∷ 0 ∷ 0 ∷ 1 ∷ 250 ∷ []
+pub one-entry : (c : Contents) → c .entries ≡ entryBy 0x01020304 0x05060708 0x090A0B0C ∷ []
+    → indexOf c ≡ 0 ∷ 0 ∷ 0 ∷ 13 ∷ 1 ∷ 1 ∷ 2 ∷ 3 ∷ 4 ∷ 5 ∷ 6 ∷ 7 ∷ 8 ∷ 9 ∷ 10 ∷ 11 ∷ 12 ∷ []
 unfolding inTurn
 one-entry c one = rw one

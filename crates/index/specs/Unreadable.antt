@@ -1,13 +1,13 @@
 -- Which bytes are not a recording's index, by the number that they are refused by and the number beside it: the length field, then the version, then
--- the first part of the rest that is not the entry's. It cites nothing of how reading decides. Assumes nothing.
-use Prim.Native.Nat.{ℕ, _-_, _≤_, _<_}
+-- the first entry that is not there as it should be. It cites nothing of how reading decides. Assumes nothing.
+use Prim.Native.Nat.{ℕ, _*_, _-_, _≤_, _<_}
 use mathlib.Core.Path.{_≡_}
 use mathlib.Core.List.{List}
-use lib.ListN.{length, getD, drop}
+use lib.ListN.{length, getD, take, drop}
 use Rattle.entries.specs.declared.Entry.{Entry}
 use Rattle.entries.specs.Words.{wordAt}
-use Rattle.entries.specs.Index.{entriesBytes}
-use Rattle.entries.specs.Held.{part}
+use Rattle.entries.specs.Index.{entryBytes}
+use Rattle.entries.specs.Described.{entry}
 
 -- the length field is there, is above 0, and is the number of bytes that follow it
 pub record HasLength (x : List ℕ) : Type 0 where
@@ -15,11 +15,12 @@ pub record HasLength (x : List ℕ) : Type 0 where
   pub some : 0 < wordAt x 0
   pub follow : wordAt x 0 ≡ length x - 4
 
--- part k of the rest is the first that is not as it should be: it differs, is cut or absent, or there is one too many
+-- entry k is the first that is not in the rest as it should be: its twelve bytes differ, are cut or absent; or all are right, and more follows
 pub record FirstWrong (entries : List Entry) (rest : List ℕ) (k : ℕ) : Type 0 where
   pub within : k ≤ length entries
-  pub before : (i : ℕ) → i < k → part i rest ≡ part i (entriesBytes entries)
-  pub wrong : part k rest ≡ part k (entriesBytes entries) → ⊥
+  pub before : (i : ℕ) → i < k → take 12 (drop (12 * i) rest) ≡ entryBytes (entry entries i)
+  pub wrong : k < length entries → take 12 (drop (12 * k) rest) ≡ entryBytes (entry entries k) → ⊥
+  pub too-many : k ≡ length entries → 12 * k < length rest
 
 pub data Unreadable (x : List ℕ) (entries : List Entry) : ℕ → ℕ → Type 0 where
   no-length : (HasLength x → ⊥) → Unreadable x entries 19 0

@@ -4,7 +4,7 @@ use Prim.Native.Nat.{ℕ, _<_}
 use mathlib.Core.Path.{_≡_, sym, ap, _∙_, subst}
 use mathlib.Core.List.{List}
 use mathlib.Core.Bool.{true, false}
-use lib.ListN.{getD, take}
+use lib.ListN.{length, getD, take}
 use Rattle.tables.specs.Lent.{Leaves}
 use Rattle.blocks.specs.Headers.{Bytes}
 use Rattle.refusals.specs.Said.{Said, answers}
@@ -26,28 +26,30 @@ use Rattle.numbers.specs.declared.Answer.{Answer}
 use Rattle.numbers.specs.declared.Entry.{Entry as Shown}
 use Rattle.numbers.specs.Numbers.{readNumbers, entryNumbers}
 use Rattle.klovdrun.specs.Wrapped.{SpCarries, BuildCarries, Tells}
-use Rattle.klovdrun.specs.Refusals.{foundRefusals}
-use Rattle.klovdrun.proofs.Theorems.{build-tells, klov-read-index-tells, klov-find-entry-tells, found-tells}
+use Rattle.klovdrun.specs.Refusals.{indexedRefusals}
+use Rattle.klovdrun.proofs.Theorems.{build-tells, klov-read-index-tells, klov-find-entry-tells, indexed-tells}
 
 module _ (f : List ℕ) where
   -- a host's call of `klov_build_index` that answered
   module _ {out out′ : List ℕ} {r : Answer} (c : BuildCarries (contentsOf f) out out′ r) (answered : r .refusal ≡ 0) where
-    -- The first bytes of the output, as many as first says, are the file's index.
+    -- The first bytes of the output, as many as first says, are the file's index, and second is how many entries it has.
     pub told-built : (contents : Contents) × (contentsOf f ≡ answers contents) × (take (r .first) out′ ≡ indexOf contents)
+        × (r .second ≡ length (contents .entries))
     told-built =
         let t = build-tells f c .zero answered in
         let says : builtSays (c .answer) ≡ answers (t .0) = c .comes .answer-is ∙ t .1 in
         let w = built-is f out out′ (c .answer) (c .comes) (t .0) says in
-        (w .0, w .1, ap (λ (n : ℕ). take n out′) (t .3) ∙ w .2)
+        (w .0, w .1, ap (λ (n : ℕ). take n out′) (t .3) ∙ w .2, t .4 ∙ w .3)
 
-    -- `klov_read_index` takes them for the file, and tells as many packets as the whole reading has.
+    -- `klov_read_index` takes them for the file, and tells as many entries, and as many packets as the whole reading has.
     pub told-reads-back : {told : Answer} → told ≡ readNumbers (totalled (indexRead f (take (r .first) out′)))
-        → (told .refusal ≡ 0) × ((reading : Reading) → dssReading f ≡ answers reading → told .second ≡ total reading)
+        → (told .refusal ≡ 0) × (told .first ≡ r .second) × ((reading : Reading) → dssReading f ≡ answers reading → told .second ≡ total reading)
     told-reads-back {told} e =
         let w = told-built in
         let read : indexRead f (take (r .first) out′) ≡ answers (w .0) = ap (indexRead f) (w .2) ∙ its-index-is-read f (w .0) (w .1) in
         let is : told ≡ readNumbers (totalled (answers (w .0))) = e ∙ ap (λ (said : Said Contents). readNumbers (totalled said)) read in (
           ap (λ (x : Answer). x .refusal) is,
+          ap (λ (x : Answer). x .first) is ∙ sym (w .3),
           λ reading all.
               let v = every-reading-has-one f reading all in
               ap (λ (x : Answer). x .second) is ∙ ap (λ (d : Contents). d .total) (same (w .0) (v .0) (sym (w .1) ∙ v .1)) ∙ v .2,
@@ -79,16 +81,16 @@ module _ (f : List ℕ) where
     -- a host's call of `klov_dss_packet`
     module _ {out out′ counts counts′ : List ℕ} {r : Answer} (c : SpCarries (packetFound f x p) out out′ counts counts′ r) where
       -- Its numbers tell what reading the index is refused by, 18 with the total, 8 with 1, or one packet.
-      pub told-by-index : Tells foundRefusals (λ n. n) (λ n. 0) 0 (saidBy (indexRead f x) p (roomIn out counts)) r
+      pub told-by-index : Tells indexedRefusals (λ n. n) (λ n. 0) 0 (saidBy (indexRead f x) p (roomIn out counts)) r
       told-by-index =
-          subst (λ (said : Said ℕ). Tells foundRefusals (λ n. n) (λ n. 0) 0 said r)
-          (sym (c .comes .answer-is) ∙ packet-said f x p out out′ counts counts′ (c .answer) (c .comes)) (found-tells f x p c)
+          subst (λ (said : Said ℕ). Tells indexedRefusals (λ n. n) (λ n. 0) 0 said r)
+          (sym (c .comes .answer-is) ∙ packet-said f x p out out′ counts counts′ (c .answer) (c .comes)) (indexed-tells f x p c)
 
       -- With refusal 0, first is 1, the packet of that number of the whole reading is in front of the output, and its count in front of the table.
       pub told-packet-by-index : r .refusal ≡ 0
           → (reading : Reading) × (dssReading f ≡ answers reading) × (p < total reading) × (r .first ≡ 1)
           × Leaves out 0 42 (λ i. getD (packetAt reading p) i 0) out′ × Leaves counts 0 1 (λ i. fileCountAt reading p) counts′
       told-packet-by-index none =
-          let told = found-tells f x p c .zero none in
+          let told = indexed-tells f x p c .zero none in
           let says : demuxedSays (c .answer) ≡ answers (r .first) = c .comes .answer-is ∙ told .1 ∙ ap answers (sym (told .3)) in
           packet-handed f x p out out′ counts counts′ (c .answer) (c .comes) (r .first) says

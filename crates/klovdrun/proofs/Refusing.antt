@@ -35,7 +35,7 @@ use Rattle.finding.specs.Packet.{packetFound}
 use Rattle.finding.proofs.Theorems.{found-by-reading, entry-has-the-packet, packet-by-entry, refused-alike}
 use Rattle.reader.specs.State.{State, isKind, startOf, owed, fitsBy, headerDone}
 use Rattle.reader.specs.Calls.{openSaid, brings, pieceSaid, inBlock, strictBy, strictSaid, lenientSaid}
-use Rattle.klovdrun.specs.Refusals.{payloadRefusals, dssRefusals, ds2Refusals, packetRefusals, qpRefusals, qp7Refusals, fetchRefusals, openRefusals, pieceRefusals, strictRefusals, lenientRefusals, writeRefusals, buildRefusals, readRefusals, findRefusals, foundRefusals}
+use Rattle.klovdrun.specs.Refusals.{payloadRefusals, dssRefusals, ds2Refusals, packetRefusals, qpRefusals, qp7Refusals, fetchRefusals, openRefusals, pieceRefusals, strictRefusals, lenientRefusals, writeRefusals, buildRefusals, readRefusals, findRefusals, indexedRefusals}
 
 -- a payload
 pub payload-numbered : (f : List ℕ) (block : ℕ) → Numbered payloadRefusals (payloadPlace f block)
@@ -131,16 +131,16 @@ pub find-numbered : (f x : List ℕ) (p : ℕ) → Numbered findRefusals (entryF
 unfolding isAmong hasAll
 find-numbered f x p = finding-numbered f x p refl refl
 
-pub found-numbered : (f x : List ℕ) (p : ℕ) → Numbered foundRefusals (packetFound f x p)
+pub indexed-numbered : (f x : List ℕ) (p : ℕ) → Numbered indexedRefusals (packetFound f x p)
 unfolding isAmong hasAll
-found-numbered f x p =
+indexed-numbered f x p =
     by-said (entryFound f x p)
     (λ entry e.
     let h = entry-has-the-packet f x p entry e in
-    subst (Numbered foundRefusals) (sym (packet-by-entry f x p entry (h .0) (h .1) e)) (answered _))
+    subst (Numbered indexedRefusals) (sym (packet-by-entry f x p entry (h .0) (h .1) e)) (answered _))
     (λ why e.
-    let is = finding-numbered {numbers = foundRefusals} f x p refl refl in
-    subst (Numbered foundRefusals) (sym (refused-alike f x p why e)) (refused-so why (is .among why e) (is .only-records-lack why e)))
+    let is = finding-numbered {numbers = indexedRefusals} f x p refl refl in
+    subst (Numbered indexedRefusals) (sym (refused-alike f x p why e)) (refused-so why (is .among why e) (is .only-records-lack why e)))
 
 -- a reader's calls, at any state
 pub open-numbered : (kind : ℕ) → Numbered openRefusals (openSaid kind)

@@ -67,8 +67,8 @@ use Rattle.klovdrun.proofs.klov_read_index.Kinds as reading
 use Rattle.klovdrun.proofs.klov_read_index.Reads as reading-reads
 use Rattle.klovdrun.proofs.klov_find_entry.Kinds as finds
 use Rattle.klovdrun.proofs.klov_find_entry.Reads as finds-reads
-use Rattle.klovdrun.proofs.klov_dss_packet.Kinds as found
-use Rattle.klovdrun.proofs.klov_dss_packet.Reads as found-reads
+use Rattle.klovdrun.proofs.klov_dss_packet.Kinds as indexed
+use Rattle.klovdrun.proofs.klov_dss_packet.Reads as indexed-reads
 use Rattle.klovdrun.proofs.klov_open.Kinds as opening
 use Rattle.klovdrun.proofs.klov_open.Reads as opening-reads
 
@@ -133,7 +133,7 @@ klov-demux-ds2-sp-settled κs a x y s t p q = sp-settled p q
 pub klov-ds2-sp-packet-settled : SettledAs 3 packet.ps packet.r (λ κs. Two) (λ κs x s. (x, now (s .1 .1 .0), now (s .1 .1 .1 .0))) packet-reads.Post
 klov-ds2-sp-packet-settled κs a x y s t p q = sp-settled p q
 
-pub klov-dss-packet-settled : SettledAs 4 found.ps found.r (λ κs. Two) (λ κs x s. (x, now (s .1 .1 .1 .0), now (s .1 .1 .1 .1 .0))) found-reads.Post
+pub klov-dss-packet-settled : SettledAs 4 indexed.ps indexed.r (λ κs. Two) (λ κs x s. (x, now (s .1 .1 .1 .0), now (s .1 .1 .1 .1 .0))) indexed-reads.Post
 klov-dss-packet-settled κs a x y s t p q = sp-settled p q
 
 pub klov-demux-ds2-qp-settled : SettledAs 2 qp.ps qp.r (λ κs. One) (λ κs x s. (x, now (s .1 .0))) qp-reads.Post

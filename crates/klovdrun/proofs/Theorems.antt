@@ -47,8 +47,8 @@ use Rattle.numbers.specs.declared.Tallied.{Tallied}
 use Rattle.numbers.specs.declared.Entry.{Entry as Shown}
 use Rattle.numbers.specs.Numbers.{numbersOr, oneNumber, qpNumbers, qp7Numbers, whereNumber, placeNumber, standNumbers, owingNumbers, tallyNumbers, builtNumbers, readNumbers, entryNumbers}
 use Rattle.klovdrun.specs.Wrapped.{SpCarries, QpCarries, Qp7Carries, FillCarries, WriteCarries, BuildCarries, stepTo, OpenCarries, Advances, Tells, ofEntry, ofTally}
-use Rattle.klovdrun.specs.Refusals.{payloadRefusals, dssRefusals, ds2Refusals, packetRefusals, qpRefusals, qp7Refusals, fetchRefusals, openRefusals, pieceRefusals, strictRefusals, lenientRefusals, writeRefusals, buildRefusals, readRefusals, findRefusals, foundRefusals}
-use Rattle.klovdrun.proofs.Refusing.{payload-numbered, dss-numbered, ds2-numbered, packet-numbered, packets-numbered, segments-numbered, records-numbered, fetch-numbered, open-numbered, piece-numbered, strict-numbered, lenient-numbered, write-numbered, build-numbered, read-numbered, find-numbered, found-numbered}
+use Rattle.klovdrun.specs.Refusals.{payloadRefusals, dssRefusals, ds2Refusals, packetRefusals, qpRefusals, qp7Refusals, fetchRefusals, openRefusals, pieceRefusals, strictRefusals, lenientRefusals, writeRefusals, buildRefusals, readRefusals, findRefusals, indexedRefusals}
+use Rattle.klovdrun.proofs.Refusing.{payload-numbered, dss-numbered, ds2-numbered, packet-numbered, packets-numbered, segments-numbered, records-numbered, fetch-numbered, open-numbered, piece-numbered, strict-numbered, lenient-numbered, write-numbered, build-numbered, read-numbered, find-numbered, indexed-numbered}
 
 tells : {A : Type 0} {numbers : List ℕ} (first second : A → ℕ) (other : ℕ) (said : Said A) → isAmong numbers 0 ≡ false → Numbered numbers said
     → {r : Answer} → r ≡ numbersOr first second other said → Tells numbers first second other said r
@@ -165,10 +165,10 @@ module _ (f : List ℕ) {out out′ counts counts′ : List ℕ} {r : Answer} wh
   unfolding isAmong
   packet-tells k c = sp-tells c packetRefusals refl refl (packet-numbered f k)
 
-  pub found-tells : (x : List ℕ) (p : ℕ) → SpCarries (packetFound f x p) out out′ counts counts′ r
-      → Tells foundRefusals (λ n. n) (λ n. 0) 0 (packets (inRoom (packetFound f x p) (roomIn out counts))) r
+  pub indexed-tells : (x : List ℕ) (p : ℕ) → SpCarries (packetFound f x p) out out′ counts counts′ r
+      → Tells indexedRefusals (λ n. n) (λ n. 0) 0 (packets (inRoom (packetFound f x p) (roomIn out counts))) r
   unfolding isAmong
-  found-tells x p c = sp-tells c foundRefusals refl refl (found-numbered f x p)
+  indexed-tells x p c = sp-tells c indexedRefusals refl refl (indexed-numbered f x p)
 
 -- `klov_demux_ds2_qp`
 module _ (f : List ℕ) {table table′ : List ℕ} {r : Answer} (c : QpCarries (qpReading f) table table′ r) where

@@ -64,5 +64,5 @@ abbrev pub findRefusals : List ℕ
 findRefusals = 1 ∷ 2 ∷ 3 ∷ 19 ∷ 20 ∷ 21 ∷ 18 ∷ []
 
 -- `klov_dss_packet`
-abbrev pub foundRefusals : List ℕ
-foundRefusals = 1 ∷ 2 ∷ 3 ∷ 19 ∷ 20 ∷ 21 ∷ 18 ∷ 8 ∷ []
+abbrev pub indexedRefusals : List ℕ
+indexedRefusals = 1 ∷ 2 ∷ 3 ∷ 19 ∷ 20 ∷ 21 ∷ 18 ∷ 8 ∷ []

@@ -89,6 +89,12 @@ onward-refused rest e = rw (← e)
 pub onward-answered : {A B : Type 0} {said : Said A} {a : A} (rest : A → Said B) → answers a ≡ said → onward said rest ≡ rest a
 onward-answered rest e = rw (← e)
 
+-- going on twice
+pub onward-twice : {A B C : Type 0} (said : Said A) (rest : A → Said B) (more : B → Said C)
+    → onward said (λ a. onward (rest a) more) ≡ onward (onward said rest) more
+onward-twice (answers a) rest more = refl
+onward-twice (refusal why) rest more = refl
+
 -- what was answered in the end was first answered, and then gone on with
 pub went-on : {A B : Type 0} {b : B} (said : Said A) (rest : A → Said B) → onward said rest ≡ answers b
     → (a : A) × (said ≡ answers a) × (rest a ≡ answers b)

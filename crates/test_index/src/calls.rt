@@ -4,6 +4,7 @@ use crate::making::next_index;
 use finding::Found;
 use index::Built;
 use index::Read;
+use refusals::Refusal;
 use test_expected::Seen;
 use test_expected::expect;
 use test_expected::expect_all;
@@ -21,19 +22,28 @@ const FOR_INDEX: usize = 3;
 
 const ASKED: usize = 4;
 
-// What building answers, in numbers: the refusal and the number beside it, bytes and entries.
+// A refusal in numbers, with the one beside it, and two numbers of an answer behind that.
+fn refused(why: Refusal) -> [u64; 4] {
+    [why.number, why.beside, 0, 0]
+}
+
+fn answered(first: usize, second: usize) -> [u64; 4] {
+    [0, 0, first as u64, second as u64]
+}
+
+// What building answers: bytes and entries.
 fn built_said(answer: Built) -> [u64; 4] {
     match answer {
-        Built::Refused(why) => [why.number, why.beside, 0, 0],
-        Built::Index(size) => [0, 0, size.bytes as u64, size.entries as u64],
+        Built::Refused(why) => refused(why),
+        Built::Index(size) => answered(size.bytes, size.entries),
     }
 }
 
-// What reading answers: the refusal and the number beside it, entries and packets.
+// What reading answers: entries and packets.
 fn read_said(answer: Read) -> [u64; 4] {
     match answer {
-        Read::Refused(why) => [why.number, why.beside, 0, 0],
-        Read::Accepted(totals) => [0, 0, totals.entries as u64, totals.packets as u64],
+        Read::Refused(why) => refused(why),
+        Read::Accepted(totals) => answered(totals.entries, totals.packets),
     }
 }
 
