@@ -5,9 +5,10 @@ mod common;
 
 use common::files::{self, header, Dice};
 use common::model::{self, refused, Kind, Refused};
+use common::sorts::{met_in, Sort};
 use klovdrun::demux::ds2::{demux_ds2_sp_counted, ds2_sp_packet, ds2_sp_packet_into};
 use klovdrun::{tally, Packets, Refusal, LIMIT, PACKET};
-use std::collections::{BTreeMap, BTreeSet};
+use std::collections::BTreeSet;
 
 const FILES: u64 = 400;
 /// Bytes and counts of rooms that suffice, just so and with more of either; and of rooms that do not.
@@ -132,16 +133,8 @@ fn met(file: &[u8], packets: &[One]) -> Vec<String> {
 
 #[test]
 fn every_number_gives_the_packet_of_the_whole_reading() {
-    let sorts: [fn(&mut Dice) -> Vec<u8>; 5] = [files::ds2_sp, files::seventh, without_a_good_header, without_a_gap, files::any];
-    let (mut seen, mut refusals) = (BTreeMap::new(), BTreeSet::new());
-    for seed in 0..FILES {
-        let file = sorts[seed as usize % sorts.len()](&mut Dice::new(seed));
-        match hold(&file) {
-            Ok(packets) => met(&file, &packets).into_iter().for_each(|what| *seen.entry(what).or_insert(0) += 1),
-            Err(refusal) => drop(refusals.insert(refusal[0])),
-        }
-    }
-    println!("{seen:?}, {refusals:?}");
+    let sorts: [Sort; 5] = [files::ds2_sp, files::seventh, without_a_good_header, without_a_gap, files::any];
+    let (seen, refusals) = met_in(FILES, &sorts, hold, |file, packets| met(file, packets));
     // of three first bytes either flag and no block, and five more
     assert_eq!(seen.len(), 3 * 3 + 5, "{seen:?}");
     assert_eq!(refusals, BTreeSet::from([1, 3, 11]));

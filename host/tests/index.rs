@@ -5,6 +5,7 @@ mod common;
 
 use common::files::{self, header, Dice};
 use common::model::{self, refused, Kind, Refused};
+use common::sorts::{met_in, Sort};
 use klovdrun::demux::dss::demux_dss_counted;
 use klovdrun::index::{build_index, build_index_into, dss_packet, dss_packet_into, find_entry, index_size, read_index};
 use klovdrun::index::{Built, Entry, Totals};
@@ -213,16 +214,8 @@ fn met(file: &[u8], known: &Known) -> Vec<String> {
 
 #[test]
 fn every_number_gives_its_entry_and_the_packet_of_the_whole_reading() {
-    let sorts: [fn(&mut Dice) -> Vec<u8>; 5] = [files::dss, without_a_gap, one_a_block, past_the_end, files::any];
-    let (mut seen, mut refusals) = (BTreeMap::new(), BTreeSet::new());
-    for seed in 0..FILES {
-        let file = sorts[seed as usize % sorts.len()](&mut Dice::new(seed));
-        match hold(&file) {
-            Ok(known) => met(&file, &known).into_iter().for_each(|what| *seen.entry(what).or_insert(0) += 1),
-            Err(refusal) => drop(refusals.insert(refusal[0])),
-        }
-    }
-    println!("{seen:?}, {refusals:?}");
+    let sorts: [Sort; 5] = [files::dss, without_a_gap, one_a_block, past_the_end, files::any];
+    let (seen, refusals) = met_in(FILES, &sorts, hold, met);
     // of two first bytes either flag, silent blocks and no block, and nine more
     assert_eq!(seen.len(), 2 * 4 + 9, "{seen:?}");
     assert_eq!(refusals, BTreeSet::from([1, 3]));
