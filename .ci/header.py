@@ -21,6 +21,7 @@ CONSTANTS = {"LIMIT": "blocks::LIMIT", "PACKET": "packets::PACKET", "FRAME": "fr
              "INDEX_FRONT": "index::FRONT", "INDEX_ENTRY": "entries::ENTRY"}
 IN_HEADER = ("LIMIT", "PACKET", "FRAME", "BLOCK", "PAYLOAD", "QP_WORDS", "QP7_WORDS", "INDEX_FRONT", "INDEX_ENTRY")
 IN_RUST = ("LIMIT", "PACKET", "FRAME", "PAYLOAD", "BLOCK", "QP_WORDS", "QP7_WORDS", "INDEX_FRONT", "INDEX_ENTRY")
+ENDS = ("STRICT", "LENIENT")  # the reader's ends, by which one is meant
 BESIDE = {2: "LIMIT", 7: "HOLD", 17: "LIMIT"}  # refusals whose number beside is a constant
 HELPS = {"host/c/intake.c": r'^static const char help\[\] =\n(.*?);\n\n',
          "host/examples/intake.rs": r'^const HELP: &str = "\\\n(.*?)^";$'}  # where the help of the intakes stands
@@ -143,6 +144,8 @@ def check_c(header):
     size, align, _ = layout("Reader")
     check_constant(header, r"#define KLOV_VERSION (\w+)u", version())
     check_constant(header, r"#define KLOV_DS2_START (\w+)u", ds2_start())
+    for name in ENDS:
+        check_constant(header, rf"#define KLOV_{name} (\w+)u", end_choice(name))
     check_constant(header, r"#define KLOV_READER_SIZE (\w+)u", size)
     check_constant(header, r"#define KLOV_READER_ALIGN (\w+)u", align)
     for name in IN_HEADER:
@@ -180,6 +183,8 @@ def check_constant(source, pattern, value):
 def check_rust(source, root):
     check_constant(source, r"const READER_SIZE: usize = (\w+);", layout("Reader")[0])
     check_constant(source, r"pub\(crate\) const VERSION: u64 = (\w+);", version())
+    for name in ENDS:
+        check_constant(source, rf"pub\(crate\) const {name}: u64 = (\w+);", end_choice(name))
     check_constant(root, r"pub const DS2_START: FilePlace = FilePlace\((\w+)\);", ds2_start())
     for name in IN_RUST:
         check_constant(root, rf"pub const {name}: usize = (\w+);", constant(name))
@@ -197,6 +202,10 @@ def check_rust(source, root):
 
 def version():
     return number_of(text(RATTLE), r"const VERSION: u64 = (\w+);")
+
+
+def end_choice(name):
+    return number_of(text("crates/reader/src/lib.rt"), rf"pub const {name}: u64 = (\w+);")
 
 
 def ds2_start():

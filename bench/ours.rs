@@ -113,7 +113,7 @@ pub fn tally(file: &[u8]) -> (usize, usize, usize) {
 pub fn pieces(kind: u64, file: &[u8], bytes: usize, room: &mut Room, show: impl FnMut(&[u8])) -> usize {
     let mut reader = raw::open(kind).expect("a kind of reader");
     let sum = fed(&mut reader, file, bytes, usize::MAX, room, show);
-    raw::strict_end(&mut reader).0.expect("a complete recording");
+    raw::end(&mut reader, raw::STRICT, &mut [], &mut []).0.expect("a complete recording");
     sum
 }
 

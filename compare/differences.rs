@@ -18,6 +18,7 @@ pub enum Name {
     NoSuchKind,
     EndInHeader,
     StrictEnd,
+    NoSuchEnd,
     MissingFrames,
     EncryptedNames,
 }
@@ -43,6 +44,7 @@ pub const NAMES: &[(Name, &str)] = &[
         Name::StrictEnd,
         "finish answers an error with a text; here refusal 13 with the bytes of the block, or 14 with the frames owed",
     ),
+    (Name::NoSuchEnd, "finish and finish_lenient are two calls; here one takes which is meant, and any other choice is refused by 22"),
     (Name::MissingFrames, "frames past a segment's end are left out of the list; here each is told by size 0"),
     (Name::EncryptedNames, "detect_format names a file with \\x03enc by its byte 0x604; here it has no name"),
 ];

@@ -172,12 +172,8 @@ impl Reader {
         })
     }
 
-    pub fn strict_end(&mut self) -> Numbers {
-        numbers(unsafe { raw::klov_strict_end(&mut *self.0) })
-    }
-
-    pub fn lenient_end(&mut self, out: &mut [u8], counts: &mut [u8]) -> Numbers {
+    pub fn end(&mut self, choice: u64, out: &mut [u8], counts: &mut [u8]) -> Numbers {
         let (out_len, counts_len) = (out.len(), counts.len());
-        numbers(unsafe { raw::klov_lenient_end(&mut *self.0, out.as_mut_ptr(), out_len, counts.as_mut_ptr(), counts_len) })
+        numbers(unsafe { raw::klov_end(&mut *self.0, choice, out.as_mut_ptr(), out_len, counts.as_mut_ptr(), counts_len) })
     }
 }

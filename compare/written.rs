@@ -9,6 +9,7 @@ use crate::differences::Name;
 use crate::lent::Lent;
 use crate::ours::{self, Reader};
 use crate::pieces::Seen;
+use crate::raw;
 use crate::score::Score;
 use crate::whole_sp::Packets;
 use original::{AudioFormat, DemuxedDs2, Stream};
@@ -119,7 +120,7 @@ fn in_pieces(file: &[u8], packets: &[u8], counts: &[u8], dice: &mut Dice, score:
         our_counts.extend_from_slice(&seen.counts.part()[..many]);
     }
     score.original(READ, (&their_packets[..], theirs.finish()), (packets, Ok(Vec::new())));
-    score.model(READ, (packets, counts, ours::answered(0, 0)), (&our_packets[..], &our_counts[..], reader.strict_end()));
+    score.model(READ, (packets, counts, ours::answered(0, 0)), (&our_packets[..], &our_counts[..], reader.end(raw::STRICT, &mut [], &mut [])));
 }
 
 /// Headers, lists and rooms with something wrong in some of them, so that the order of refusals shows too.

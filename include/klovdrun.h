@@ -32,8 +32,8 @@
  * A READER takes an SP recording in pieces. It reads, drains, or has ended:
  * - it reads from klov_open on. klov_piece takes a piece, which may be cut anywhere and may be empty, whole or not at all. A refused call
  *   changes nothing, and it goes on reading: after a refused end too;
- * - it drains once klov_lenient_end has answered and frames are still owed. Pieces and klov_strict_end are then refused by 6, and
- *   klov_lenient_end is asked again until second is 0;
+ * - it drains once a lenient klov_end has answered and frames are still owed. Pieces and a strict klov_end are then refused by 6, and the
+ *   lenient one is asked again until second is 0;
  * - it has ended once an end has answered and none is owed. Pieces are then refused by 6, and either end answers 0 packets, which says
  *   nothing more.
  * Owed are the frames that the whole blocks so far announce and that were not handed out: every answer has them in second, refused ones too,
@@ -88,6 +88,7 @@
  *   19  index: under 4 bytes, or its length is 0 or not that of what follows it            0
  *   20  index: a version other than 1                                                      that version
  *   21  index: an entry differs from the recording's, is cut, absent or one too many       the first such entry, from 0
+ *   22  end: the choice is neither KLOV_STRICT nor KLOV_LENIENT, in whatever state         0
  * Where several hold, the first in the call's own list is given.
  */
 #ifndef KLOVDRUN_H
@@ -102,7 +103,7 @@ extern "C" {
 #endif
 
 /* The version of all that is said here. It goes up with every change of an answer or of a layout; klov_version tells the archive's. */
-#define KLOV_VERSION 4u
+#define KLOV_VERSION 5u
 /* The longest input, and the longest file that is written, in bytes. */
 #define KLOV_LIMIT 268435456u
 /* Bytes of a packet, of a QP frame (and so of a scratch), of a block, and of a block's payload. */
@@ -121,6 +122,9 @@ extern "C" {
 /* Bytes of an index of version 1 before its entries, and of an entry. */
 #define KLOV_INDEX_FRONT 5u
 #define KLOV_INDEX_ENTRY 12u
+/* Which end klov_end is asked for. */
+#define KLOV_STRICT 0u
+#define KLOV_LENIENT 1u
 /* A reader's size and alignment. */
 #define KLOV_READER_SIZE 12928u
 #define KLOV_READER_ALIGN 8u
@@ -157,7 +161,8 @@ enum {
     KLOV_REFUSED_BEYOND = 18,
     KLOV_REFUSED_INDEX = 19,
     KLOV_REFUSED_INDEX_VERSION = 20,
-    KLOV_REFUSED_INDEX_ENTRY = 21
+    KLOV_REFUSED_INDEX_ENTRY = 21,
+    KLOV_REFUSED_CHOICE = 22
 };
 
 /* What klov_detect_format answers. */
@@ -177,7 +182,7 @@ enum { KLOV_DSS_SP = 0, KLOV_DS2_SP = 1, KLOV_DS2_QP = 2, KLOV_DS2_QP7 = 3 };
 enum { KLOV_READ_DS2 = 0, KLOV_READ_WHOLE = 1, KLOV_READ_DSS_2 = 2, KLOV_READ_DSS_3 = 3 };
 
 /* What most calls answer. `refusal` is 0, or a refusal's number, and then the number beside it is in `beside`. `first` and `second` are
- * named at each call; what is not named is 0. On a refusal `first` is 0, and so is `second` but for a reader's three calls. `size` and
+ * named at each call; what is not named is 0. On a refusal `first` is 0, and so is `second` but for a reader's two calls. `size` and
  * `absent` are 0 but beside the refusals 4 and 5. */
 typedef struct {
     uint64_t refusal;
@@ -295,16 +300,18 @@ KLOV_MUST_USE klov_opened klov_open(uint64_t kind);
  * the recording is read whole. Refusals 6, 2, 7, 8. */
 KLOV_MUST_USE klov_answer klov_piece(klov_reader *reader, const uint8_t *src, size_t src_len, uint8_t *out, size_t out_len, uint8_t *counts, size_t counts_len);
 
-/* The strict end hands out nothing, and ends the reader of a recording that ends with a whole block and owes nothing. Refusals 6, 3, 13, 14.
- * What its answer says of the recording is the rule above: on no input it answers too, and for a recording that begins swapped. Once it has
- * answered, before any lenient end, every packet that was handed out is whole but the swapped ones before the first unswapped read, and all
- * counts are full: the short ones are the leading counts of 40. */
-KLOV_MUST_USE klov_answer klov_strict_end(klov_reader *reader);
-
-/* The lenient end drops a block that is not whole, and hands out packets that are owed, zeros where the file has no bytes, as many as there
+/* An end, by the choice: KLOV_STRICT or KLOV_LENIENT. Refusals 6, 22, 3, 13, 14: of these the strict end has 6, 3, 13 and 14, the lenient end 3
+ * alone, and every other choice has 22, whatever state the reader is in.
+ *
+ * The strict end hands out nothing and writes nothing, whatever room there is, so that it may be lent none. It ends the reader of a recording that
+ * ends with a whole block and owes nothing. What its answer says of the recording is the rule above: on no input it answers too, and for a
+ * recording that begins swapped. Once it has answered, before any lenient end, every packet that was handed out is whole but the swapped ones
+ * before the first unswapped read, and all counts are full: the short ones are the leading counts of 40.
+ *
+ * The lenient end drops a block that is not whole, and hands out packets that are owed, zeros where the file has no bytes, as many as there
  * is room for. In DSS some of them can have their full count and be short all the same, by a carried byte that is ours. It is asked again while
- * second is above 0. Refusal 3. */
-KLOV_MUST_USE klov_answer klov_lenient_end(klov_reader *reader, uint8_t *out, size_t out_len, uint8_t *counts, size_t counts_len);
+ * second is above 0. */
+KLOV_MUST_USE klov_answer klov_end(klov_reader *reader, uint64_t choice, uint8_t *out, size_t out_len, uint8_t *counts, size_t counts_len);
 
 /* A DS2 SP file: the header as it is, KLOV_DS2_START bytes that begin `\x01ds2` or `\x03ds2`, and blocks of the packets, which are joined,
  * KLOV_PACKET bytes each, byte 40 of each 0, as the SP calls hand them out. Read whole it gives the same packets, each with its full count and
@@ -410,6 +417,8 @@ static inline int klov_refusal_sentence(char *text, size_t room, const klov_answ
         return snprintf(text, room, "the index is of version %llu, which the call does not read", beside);
     case KLOV_REFUSED_INDEX_ENTRY:
         return snprintf(text, room, "the index is not this recording's: its entry %llu differs, is cut, is missing or is one too many", beside);
+    case KLOV_REFUSED_CHOICE:
+        return snprintf(text, room, "an end is strict or lenient: there is no other choice");
     default:
         return snprintf(text, room, "refusal %llu, which is not known here, with %llu", number, beside);
     }

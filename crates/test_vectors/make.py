@@ -293,6 +293,9 @@ def noise_bytes(seed, count):
 def usual_start(magic):
     return BLOCK * magic[0] if magic in DSS else 0x1000 if magic == DS2_SEVEN else 0x600
 
+# choices of an end that are neither 0 nor 1; of some the low bytes are
+NEITHER = 2, 3, 10, 255, 256, 257, 65536, 65537, 1 << 32, (1 << 32) + 1, 1 << 56
+
 class Case:
     """A file and the parameters; `complete` fills in what is not given, by the case's number."""
     def __init__(self, title, magic, headers=(), extra=0, spare=2, **given):
@@ -307,7 +310,7 @@ class Case:
         vars(self).update(dict(start=start, length=length, fill=1, seed=number, kind=kind, first=0, second=0,
                                step=number % 3 * number * 31 % 1900, place=number * 37 % max(100, length - start),
                                size=1 + number % 56, scratch=56 + number % 9,
-                               block=number % (len(self.headers) + 1), part=number % 9,
+                               block=number % (len(self.headers) + 1), part=number % 9, choice=NEITHER[number % len(NEITHER)],
                                probe=(start, start + BLOCK * (number % 3), 0, number * 37 % (length + 700))[number % 4]),
                           **self.given)
         file = self.file()
@@ -397,12 +400,13 @@ def second_end(r):
     return [*draining, 0, 0, len(r.more), digest(bytes_of(r.more)), digest(counts_of(r.more)), left]
 
 def more_answers(case, file, r):
-    """At a place of the file; then of the reader; then where a frame stands."""
+    """At a place of the file; then of the reader; where a frame stands; and of the reader's ends by a choice that is neither."""
     calls = r.numbers + [0] * (r.refused[0] > 0)
     refusal, (across, where, _) = attempt(fetch, (0, 0, b""), file, case.place, case.size, case.scratch)
     return [Blocks(file, case.probe).type, int(good_header(file[case.probe:][:case.part])),
             0, 0 if r.known else 6, 0, past(case, calls), 0, 0 if r.strict[0] else 6,
-            past(case, [0 if r.goes_on else len(r.last)]), *second_end(r), *refusal, across, where]
+            past(case, [0 if r.goes_on else len(r.last)]), *second_end(r), *refusal, across, where,
+            past(case, [0]), 22, 0, 0, 22, 0, 0]
 
 def part_answers(case, file):
     refusal, (across, where, shown) = attempt(fetch, (0, 0, b""), file, case.place, case.size, case.scratch)
@@ -748,12 +752,13 @@ REFUSALS = {"demux_dss": (4, {0, 1, 3, 8}), "SP": (9, {0, 1, 3, 8, 11}), "QP": (
             "QP7": (20, {0, 1, 3, 4, 5, 8, 9, 11}), "open": (29, {0, 10}), "piece": (32, {0, 6, 7, 8}),
             "strict end": (39, {0, 3, 13, 14}), "lenient end": (41, {0, 3}), "piece after": (47, {0, 6}),
             "fetch": (50, {0, 1, 3, 12}), "payload": (56, {0, 1, 3, 12}), "tally": (61, {0, 1, 3, 4, 5}),
-            "strict end after": (81, {0, 3, 6}), "frame_place": (89, {0, 1, 3, 12})}
+            "strict end after": (81, {0, 3, 6}), "frame_place": (89, {0, 1, 3, 12}),
+            "other end": (94, {22}), "other end after": (97, {22})}
 
 def entry(number, case, found, rust):
     file = [number, *case.magic, case.length, case.start, case.fill, case.seed, len(case.headers)]
     asked = [case.kind, case.first, case.second, case.step, case.out, case.counts, case.table, case.records,
-             case.segments, case.place, case.size, case.scratch, case.block, case.probe, case.part]
+             case.segments, case.place, case.size, case.scratch, case.block, case.probe, case.part, case.choice]
     marked = ["dr"[place in rust] + str(found[place]) for place in range(1, len(found))]
     lines = [case.title], file + list(b"".join(case.headers)), asked, marked, []
     return "".join(" ".join(map(str, line)) + "\n" for line in lines)

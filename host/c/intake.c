@@ -573,7 +573,7 @@ static enum outcome end_strictly(struct intake *it)
 /* The strict end says whether all that is announced is there, or what is missing; then the lenient end is asked until nothing is owed. */
 static enum outcome end_pieces(struct intake *it, struct pieces *p)
 {
-    klov_answer a = klov_strict_end(&p->reader);
+    klov_answer a = klov_end(&p->reader, KLOV_STRICT, p->out.at, p->out.room, p->counts.at, p->counts.room);
     if (a.refusal == KLOV_ANSWERED)
         return end_strictly(it);
     if (a.refusal != KLOV_REFUSED_CUT_BLOCK && a.refusal != KLOV_REFUSED_OWING)
@@ -581,7 +581,7 @@ static enum outcome end_pieces(struct intake *it, struct pieces *p)
     it->cut = a.refusal == KLOV_REFUSED_CUT_BLOCK ? a.beside : 0;
     it->owed = a.second;
     do {
-        a = klov_lenient_end(&p->reader, p->out.at, p->out.room, p->counts.at, p->counts.room);
+        a = klov_end(&p->reader, KLOV_LENIENT, p->out.at, p->out.room, p->counts.at, p->counts.room);
         if (a.refusal != KLOV_ANSWERED)
             return refused(it, a);
         put_packets(it, p->out.at, p->counts.at, a.first);

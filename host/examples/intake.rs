@@ -298,8 +298,8 @@ impl Pieces {
 
     /// The strict end says whether all that is announced is there, or what is missing; then the lenient end is asked until nothing is owed.
     fn end(mut self, input: &mut Input, output: &mut Output) -> Outcome<Ended> {
-        let cut = match self.reader.strict_end() {
-            Ok(()) => return end_strictly(input, output),
+        let cut = match self.reader.end(Reader::STRICT, &mut self.room.bytes, &mut self.room.counts) {
+            Ok(_) => return end_strictly(input, output),
             Err(Refusal { number: Refusal::CUT_BLOCK, beside, .. }) => beside as usize,
             Err(Refusal { number: Refusal::OWING, .. }) => 0,
             Err(refusal) => return Err(refusal.into()),
@@ -312,7 +312,7 @@ impl Pieces {
 
     fn drain(&mut self, output: &mut Output) -> Outcome<()> {
         loop {
-            let packets = self.reader.lenient_end(&mut self.room.bytes, &mut self.room.counts)?;
+            let packets = self.reader.end(Reader::LENIENT, &mut self.room.bytes, &mut self.room.counts)?;
             self.write(packets, output)?;
             if self.reader.owed() == 0 {
                 return Ok(());

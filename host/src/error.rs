@@ -42,6 +42,7 @@ impl Refusal {
     pub const INDEX: u64 = 19;
     pub const INDEX_VERSION: u64 = 20;
     pub const INDEX_ENTRY: u64 = 21;
+    pub const CHOICE: u64 = 22;
 }
 
 impl Refusal {
@@ -79,6 +80,7 @@ impl fmt::Display for Refusal {
             Refusal::INDEX => write!(to, "this is not an index: its first four bytes are 0, or not how many follow them, or are not there"),
             Refusal::INDEX_VERSION => write!(to, "the index is of version {beside}, which the call does not read"),
             Refusal::INDEX_ENTRY => write!(to, "the index is not this recording's: its entry {beside} differs, is cut, is missing or is one too many"),
+            Refusal::CHOICE => write!(to, "an end is strict or lenient: there is no other choice"),
             other => write!(to, "refusal {other}, which is not known here, with {beside}"),
         }
     }

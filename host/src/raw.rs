@@ -8,7 +8,10 @@ use std::mem::{align_of, size_of, MaybeUninit};
 use std::sync::atomic::{AtomicBool, Ordering};
 
 /// The version of the archive that these declarations are for.
-pub(crate) const VERSION: u64 = 4;
+pub(crate) const VERSION: u64 = 5;
+/// Which end `klov_end` is asked for.
+pub(crate) const STRICT: u64 = 0;
+pub(crate) const LENIENT: u64 = 1;
 const READER_SIZE: usize = 12928;
 
 /// `klov_answer`.
@@ -143,9 +146,14 @@ extern "C" {
         counts: *mut u8,
         counts_len: usize,
     ) -> Answer;
-    pub(crate) fn klov_strict_end(reader: *mut Reader) -> Answer;
-    pub(crate) fn klov_lenient_end(reader: *mut Reader, out: *mut u8, out_len: usize, counts: *mut u8, counts_len: usize)
-        -> Answer;
+    pub(crate) fn klov_end(
+        reader: *mut Reader,
+        choice: u64,
+        out: *mut u8,
+        out_len: usize,
+        counts: *mut u8,
+        counts_len: usize,
+    ) -> Answer;
     pub(crate) fn klov_write_ds2_sp(
         header: *const u8,
         header_len: usize,
@@ -312,14 +320,9 @@ pub(crate) fn piece(reader: &mut Reader, piece: &[u8], out: &mut [u8], counts: &
         .step()
 }
 
-pub(crate) fn strict_end(reader: &mut Reader) -> (Result<usize>, usize) {
+pub(crate) fn end(reader: &mut Reader, choice: u64, out: &mut [u8], counts: &mut [u8]) -> (Result<usize>, usize) {
     checked();
-    unsafe { klov_strict_end(reader) }.step()
-}
-
-pub(crate) fn lenient_end(reader: &mut Reader, out: &mut [u8], counts: &mut [u8]) -> (Result<usize>, usize) {
-    checked();
-    unsafe { klov_lenient_end(reader, out.as_mut_ptr(), out.len(), counts.as_mut_ptr(), counts.len()) }.step()
+    unsafe { klov_end(reader, choice, out.as_mut_ptr(), out.len(), counts.as_mut_ptr(), counts.len()) }.step()
 }
 
 /// How many bytes the file has.

@@ -1,5 +1,5 @@
 //! SP recordings in pieces: the archive's reader, and the form that dss-codec's two stream demuxers share over it.
-//! It rests on the reader's three calls, which tell the frames owed in every answer.
+//! It rests on the reader's two calls, a piece and an end, which tell the frames owed in every answer.
 use crate::error::Result;
 use crate::packets::Packets;
 use crate::{raw, BLOCK};
@@ -21,6 +21,10 @@ pub struct Reader {
 impl Reader {
     /// The kind of a reader of DS2.
     pub const DS2: u64 = 0;
+    /// The strict end, as [`end`](Reader::end) takes it.
+    pub const STRICT: u64 = raw::STRICT;
+    /// The lenient end.
+    pub const LENIENT: u64 = raw::LENIENT;
 
     /// The kind of reader that takes a recording which begins with these bytes, of which four are enough. None: it is read whole.
     #[must_use]
@@ -51,22 +55,21 @@ impl Reader {
         self.keep(step)
     }
 
-    /// Ends the reader of a recording that ends with a whole block and owes nothing, or refuses by 6, 3, 13 or 14, and is as it was. Once it
-    /// has answered, before any lenient end, every packet that was handed out is whole but the swapped ones before the first unswapped read, and
-    /// all counts are full: the short ones are the leading counts of 40. What its answer says of the recording is the rule for "complete as
-    /// announced":
+    /// Ends the reader, strictly or leniently as the choice has it, and answers how many packets it hands out; any other choice is refused by 22,
+    /// whatever the reader has taken and however it has ended. A refused end leaves it as it was.
+    ///
+    /// The strict end ([`Reader::STRICT`]) hands out none and writes nothing. It ends the reader of a recording that ends with a whole block and
+    /// owes nothing, or refuses by 6, 3, 13 or 14. Once it has answered, before any lenient end, every packet that was handed out is whole but the
+    /// swapped ones before the first unswapped read, and all counts are full: the short ones are the leading counts of 40. What its answer says of
+    /// the recording is the rule for "complete as announced", below.
+    ///
+    /// The lenient end ([`Reader::LENIENT`]) drops a block that is not whole, and hands out packets that are owed, as many as there is room for,
+    /// zeros where the file has no bytes. In DSS some of them can have their full count and be short all the same, by a carried byte that is ours.
+    /// It is asked again while [`owed`](Reader::owed) is above 0. Refusal 3.
     ///
     #[doc = include_str!("complete.md")]
-    pub fn strict_end(&mut self) -> Result<()> {
-        let step = raw::strict_end(&mut self.state);
-        self.keep(step).map(|_| ())
-    }
-
-    /// Drops a block that is not whole, and hands out packets that are owed, as many as there is room for, zeros where the file has
-    /// no bytes. In DSS some of them can have their full count and be short all the same, by a carried byte that is ours. It is asked again while
-    /// [`owed`](Reader::owed) is above 0. Refusal 3.
-    pub fn lenient_end(&mut self, out: &mut [u8], counts: &mut [u8]) -> Result<usize> {
-        let step = raw::lenient_end(&mut self.state, out, counts);
+    pub fn end(&mut self, choice: u64, out: &mut [u8], counts: &mut [u8]) -> Result<usize> {
+        let step = raw::end(&mut self.state, choice, out, counts);
         self.keep(step)
     }
 
@@ -107,14 +110,14 @@ impl Fed {
     }
 
     pub(crate) fn finish(&mut self) -> Result<Vec<Vec<u8>>> {
-        let answer = self.reader.strict_end().map(|()| 0);
+        let answer = self.reader.end(Reader::STRICT, &mut [], &mut []);
         self.handed(answer)
     }
 
     /// With room for all that is owed, one lenient end hands it out.
     pub(crate) fn finish_lenient(&mut self) -> Result<Vec<Vec<u8>>> {
         self.room.make_room(self.reader.owed());
-        let answer = self.reader.lenient_end(&mut self.room.bytes, &mut self.room.counts);
+        let answer = self.reader.end(Reader::LENIENT, &mut self.room.bytes, &mut self.room.counts);
         self.handed(answer)
     }
 

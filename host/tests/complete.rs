@@ -79,8 +79,8 @@ fn in_pieces(kind: u64, pieces: &[&[u8]]) -> Told {
             type_known = true;
         }
     }
-    match fed.reader.strict_end() {
-        Ok(()) => ended(&counts),
+    match fed.reader.end(Reader::STRICT, &mut [], &mut []) {
+        Ok(_) => ended(&counts),
         Err(Refusal { number: Refusal::CUT_BLOCK, beside, size: 0, absent: 0 }) => Told::Cut(beside),
         Err(Refusal { number: Refusal::OWING, beside, size: 0, absent: 0 }) => Told::Owing(beside),
         Err(Refusal { number: Refusal::HEADER, beside, size: 0, absent: 0 }) => Told::InsideHeader(beside),
@@ -300,7 +300,7 @@ fn room_suffices_where_most_is_announced() {
 fn strict_end_answers(kind: u64, file: &[u8]) -> bool {
     let mut fed = Fed::open(kind);
     fed.give(file).unwrap();
-    fed.reader.strict_end().is_ok()
+    fed.reader.end(Reader::STRICT, &mut [], &mut []).is_ok()
 }
 
 fn is_complete(file: &[u8]) -> bool {
@@ -319,9 +319,9 @@ fn ends_that_say_nothing() {
         let mut fed = Fed::open(kind);
         fed.give(&file).unwrap();
         let reader = &mut fed.reader;
-        assert_eq!(reader.strict_end().map_err(|refusal| refusal.number), Err(Refusal::OWING));
-        reader.lenient_end(&mut [0; 13 * PACKET], &mut [0; 13]).unwrap();
-        assert_eq!((reader.strict_end(), reader.owed(), is_complete(&file)), (Ok(()), 0, false));
+        assert_eq!(reader.end(Reader::STRICT, &mut [], &mut []).map_err(|refusal| refusal.number), Err(Refusal::OWING));
+        reader.end(Reader::LENIENT, &mut [0; 13 * PACKET], &mut [0; 13]).unwrap();
+        assert_eq!((reader.end(Reader::STRICT, &mut [], &mut []), reader.owed(), is_complete(&file)), (Ok(0), 0, false));
     }
 
     assert_eq!(Reader::open(1).err(), Some(Refusal { number: Refusal::KIND, beside: 1, size: 0, absent: 0 }));

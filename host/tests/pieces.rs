@@ -46,7 +46,7 @@ impl Recording {
 }
 
 /// What a refused call of a reader answers: nothing of a record.
-fn refused(number: u64, beside: usize) -> Result<(), Refusal> {
+fn refused<T>(number: u64, beside: usize) -> Result<T, Refusal> {
     Err(Refusal { number, beside: beside as u64, size: 0, absent: 0 })
 }
 
@@ -114,18 +114,18 @@ fn end(recording: &Recording, reader: &mut Reader, got: &mut Packets, dice: &mut
     let cut = recording.file.len().wrapping_sub(recording.start) % 512;
     let owed = reader.owed();
     let expected = match (cut, owed) {
-        (0, 0) => Ok(()),
+        (0, 0) => Ok(0),
         (0, _) => refused(14, owed),
         _ => refused(13, cut),
     };
-    assert_eq!(reader.clone().strict_end(), expected);
-    assert_eq!(reader.strict_end(), expected);
+    assert_eq!(reader.clone().end(Reader::STRICT, &mut [], &mut []), expected);
+    assert_eq!(call(got, dice.below(5), |out, counts| reader.end(Reader::STRICT, out, counts)), expected);
     while reader.owed() > 0 {
         let room = 1 + dice.below(9) + reader.owed() / 4;
         let packets = room.min(reader.owed());
-        assert_eq!(call(got, room, |out, counts| reader.lenient_end(out, counts)), Ok(packets));
+        assert_eq!(call(got, room, |out, counts| reader.end(Reader::LENIENT, out, counts)), Ok(packets));
     }
-    assert_eq!(reader.lenient_end(&mut [], &mut []), Ok(0));
+    assert_eq!(reader.end(Reader::LENIENT, &mut [], &mut []), Ok(0));
 }
 
 /// How many recordings were complete in pieces, how many had frames owed, and how many overflowed or ended in the header.
@@ -138,8 +138,8 @@ fn pieces_against_whole(dss: bool) -> [usize; 3] {
         if !give_all(&recording, &mut reader, &mut got, &mut dice) {
             seen[2] += 1;
         } else if recording.file.len() < recording.start {
-            let expected = if recording.file.is_empty() { Ok(()) } else { refused(3, recording.start) };
-            assert_eq!(reader.strict_end(), expected);
+            let expected = if recording.file.is_empty() { Ok(0) } else { refused(3, recording.start) };
+            assert_eq!(reader.end(Reader::STRICT, &mut [], &mut []), expected);
             seen[2] += 1;
         } else {
             seen[usize::from(reader.owed() > 0)] += 1;

@@ -79,13 +79,21 @@ fn later(mut reader: Reader) -> Vec<Told> {
         let (mut out, mut counts) = (vec![0; 42 * 300], vec![0; 300]);
         let answer = match step {
             1 | 2 => reader.piece(&more[..500 * step], &mut out, &mut counts),
-            3 => reader.strict_end().map(|()| 0),
-            4 => reader.lenient_end(&mut out[..420], &mut counts),
-            _ => reader.lenient_end(&mut out, &mut counts),
+            3 => strictly(&mut reader, &mut out, &mut counts),
+            4 => leniently(&mut reader, &mut out[..420], &mut counts),
+            _ => leniently(&mut reader, &mut out, &mut counts),
         };
         answers.push((answer, reader.owed(), out, counts));
     }
     answers
+}
+
+fn strictly(reader: &mut Reader, out: &mut [u8], counts: &mut [u8]) -> Result<usize, Refusal> {
+    reader.end(Reader::STRICT, out, counts)
+}
+
+fn leniently(reader: &mut Reader, out: &mut [u8], counts: &mut [u8]) -> Result<usize, Refusal> {
+    reader.end(Reader::LENIENT, out, counts)
 }
 
 /// A reader of that kind that has had these bytes.
@@ -155,10 +163,10 @@ fn three_inside_the_header() {
     for (kind, start) in [(0, 1536), (2, 1024), (3, 1536)] {
         for length in [1, start - 1] {
             let mut reader = fed(kind, &vec![0; length]);
-            assert_eq!(unmoved(&mut reader, |reader, _, _| reader.strict_end().map(|()| 0)), refused(3, start as u64));
-            assert_eq!(unmoved(&mut reader, Reader::lenient_end), refused(3, start as u64));
+            assert_eq!(unmoved(&mut reader, strictly), refused(3, start as u64));
+            assert_eq!(unmoved(&mut reader, leniently), refused(3, start as u64));
         }
-        assert_eq!(fed(kind, &[]).strict_end(), Ok(()));
+        assert_eq!(strictly(&mut fed(kind, &[]), &mut [], &mut []), Ok(0));
     }
 }
 
@@ -214,17 +222,17 @@ fn six_after_the_end_or_while_draining() {
     let file = blocks(b"\x01ds2", 1536, &[header(0x0F, 3, 20, 0)]);
     let mut draining = fed(0, &file);
     assert_eq!(draining.owed(), 8);
-    assert_eq!(draining.lenient_end(&mut [0; 42], &mut [0]), Ok(1));
+    assert_eq!(leniently(&mut draining, &mut [0; 42], &mut [0]), Ok(1));
     for piece in [&b""[..], b"more", &file] {
         assert_eq!(unmoved(&mut draining, |reader, out, counts| reader.piece(piece, out, counts)), refused(6, 0));
     }
-    assert_eq!(unmoved(&mut draining, |reader, _, _| reader.strict_end().map(|()| 0)), refused(6, 0));
-    assert_eq!(draining.lenient_end(&mut [0; 420], &mut [0; 10]), Ok(7));
+    assert_eq!(unmoved(&mut draining, strictly), refused(6, 0));
+    assert_eq!(leniently(&mut draining, &mut [0; 420], &mut [0; 10]), Ok(7));
     let mut ended = fed(2, &[]);
-    ended.strict_end().unwrap();
+    strictly(&mut ended, &mut [], &mut []).unwrap();
     for mut reader in [draining, ended] {
         assert_eq!(unmoved(&mut reader, |reader, out, counts| reader.piece(b"", out, counts)), refused(6, 0));
-        assert_eq!((reader.strict_end(), reader.lenient_end(&mut [], &mut [])), (Ok(()), Ok(0)));
+        assert_eq!((strictly(&mut reader, &mut [], &mut []), leniently(&mut reader, &mut [], &mut [])), (Ok(0), Ok(0)));
     }
 }
 
@@ -330,7 +338,7 @@ fn thirteen_and_fourteen_the_strict_end() {
         let file = blocks(magic, start, &heads);
         for (after, refusal) in [(513, refused(13, 1)), (1023, refused(13, 511)), (512, refused(14, owed)), (7, refused(13, 7))] {
             let mut reader = fed(kind, &file[..start + after]);
-            assert_eq!(unmoved(&mut reader, |reader, _, _| reader.strict_end().map(|()| 0)), refusal);
+            assert_eq!(unmoved(&mut reader, strictly), refusal);
             assert_eq!(reader.owed(), if after >= 512 { owed as usize } else { 0 });
         }
     }
@@ -439,9 +447,36 @@ fn twenty_one_not_the_entries_of_the_file() {
 }
 
 #[test]
+fn twenty_two_neither_end() {
+    let file = blocks(b"\x02dss", 1024, &[header(0x0F, 3, 20, 0)]);
+    let mut draining = fed(2, &file);
+    assert_eq!(leniently(&mut draining, &mut [0; 42], &mut [0]), Ok(1));
+    let mut ended = fed(3, &[]);
+    assert_eq!(strictly(&mut ended, &mut [], &mut []), Ok(0));
+    // fresh, inside a header, inside a block, with frames owed, draining and ended
+    for mut reader in [fed(0, &[]), fed(0, &file[..9]), fed(2, &file[..1500]), fed(2, &file), draining, ended] {
+        // small ones, those whose low bytes are an end's, and the largest
+        for choice in [2, 3, 255, 256, 257, 1 << 32, (1 << 32) + 1, 1 << 63, u64::MAX] {
+            assert_eq!(unmoved(&mut reader, |reader, out, counts| reader.end(choice, out, counts)), refused(22, 0));
+        }
+    }
+}
+
+#[test]
+fn a_strict_end_writes_nothing() {
+    let file = blocks(b"\x01ds2", 1536, &[header(0x0F, 3, 12, 0)]);
+    let (mut out, mut counts) = ([0xA5; 420], [0xA5; 10]);
+    let mut reader = fed(0, &file);
+    for _ in 0..2 {
+        assert_eq!((strictly(&mut reader, &mut out, &mut counts), reader.owed()), (Ok(0), 0));
+    }
+    assert!(out.iter().chain(&counts).all(|&byte| byte == 0xA5));
+}
+
+#[test]
 fn every_refusal_has_a_sentence_of_its_own() {
     // those with a number beside them that tells something, those without, and one that there is not
-    let (telling, others) = ([2, 3, 4, 5, 7, 8, 9, 10, 11, 13, 14, 16, 17, 18, 20, 21], [1, 6, 12, 15, 19, u64::MAX]);
+    let (telling, others) = ([2, 3, 4, 5, 7, 8, 9, 10, 11, 13, 14, 16, 17, 18, 20, 21], [1, 6, 12, 15, 19, 22, u64::MAX]);
     let sentence = |number, beside, size, absent| Refusal { number, beside, size, absent }.to_string();
     let sentences: BTreeSet<String> = telling.iter().chain(&others).map(|&number| sentence(number, 0, 0, 0)).collect();
     assert_eq!(sentences.len(), telling.len() + others.len());

@@ -46,7 +46,7 @@ fn hold_readings(file: &[u8], packets: &[u8], dice: &mut Dice) {
     for piece in files::pieces(file, dice) {
         give(&mut reader, piece, &mut got);
     }
-    assert_eq!((reader.strict_end(), reader.owed()), (Ok(()), 0));
+    assert_eq!((reader.end(Reader::STRICT, &mut [], &mut []), reader.owed()), (Ok(0), 0));
     assert_eq!(got, all);
 }
 
@@ -260,5 +260,5 @@ fn hold_longest(file: &[u8], mut packets: &[u8]) {
         assert!(now == &out[..now.len()]);
         packets = later;
     }
-    assert_eq!((packets.len(), reader.strict_end()), (0, Ok(())));
+    assert_eq!((packets.len(), reader.end(Reader::STRICT, &mut [], &mut [])), (0, Ok(0)));
 }

@@ -41,7 +41,7 @@ use Rattle.tally.specs.Agreement.{kindFor, wholeOut, talliedOut, ShortAre}
 use Rattle.tally.proofs.Theorems.{tally-is-the-reading, what-is-tallied, all-packets, short-packets, frames-and-missing}
 use Rattle.reader.specs.declared.Reader.{Reader}
 use Rattle.reader.specs.State.{isDss, startOf, blocksIn, readingBy, opened as fresh, Reached}
-use Rattle.reader.specs.History.{StrictCall, joined}
+use Rattle.reader.specs.History.{EndCall, joined}
 use Rattle.reader.specs.Agreement.{wholeReading, Agrees}
 use Rattle.reader.specs.Complete.{CompleteRecording, BeginsUnswapped}
 use Rattle.reader.proofs.Agreeing.{agrees-is, dss-start, ds2-start, not-scanned}
@@ -56,7 +56,7 @@ use Rattle.klovdrun.specs.declared.Opened.{Opened}
 use Rattle.klovdrun.specs.Wrapped.{stepTo, OpenCarries, Advances}
 use Rattle.klovdrun.specs.Hosted.{Given}
 use Rattle.klovdrun.specs.Announced.{AsAnnounced, AllWhole}
-use Rattle.klovdrun.proofs.Theorems.{klov-tally-tells, open-tells, strict-end-tells}
+use Rattle.klovdrun.proofs.Theorems.{klov-tally-tells, open-tells, end-tells}
 use Rattle.klovdrun.proofs.Counted.{opened-none}
 use Rattle.klovdrun.proofs.Complete.{given-fed, told-complete}
 
@@ -176,21 +176,21 @@ none-short-whole f {runs} none s =
     )
 
 -- A host that has opened a reader and given it a recording that is read as its kind, and the same host or another that has the whole recording: a
--- first strict end answers with refusal 0, and the first count that came out is 42, or none did, exactly if the numbers of `klov_tally` say that
+-- first strict end, `klov_end` with 0, answers with refusal 0, and the first count that came out is 42, or none did, exactly if the numbers of `klov_tally` say that
 -- it is complete as announced.
 pub one-rule : (kind : ℕ) {opened : Opened} → OpenCarries kind opened → opened .answer .refusal ≡ 0 → {pieces : List (List ℕ)} {n : ℕ}
-    {packets entries : List ℕ} {last : Reader} → Given (opened .reader) pieces n packets entries last → {stored : Reader} {r : Answer}
-    → Advances (StrictCall last) stored r → Agrees kind (joined pieces) → {told : Tallied} → told ≡ tallyNumbers (tallied (joined pieces))
+    {packets entries : List ℕ} {last : Reader} → Given (opened .reader) pieces n packets entries last
+    → {out out′ counts counts′ : List ℕ} {stored : Reader} {r : Answer} → Advances (EndCall last 0 out out′ counts counts′) stored r → Agrees kind (joined pieces) → {told : Tallied} → told ≡ tallyNumbers (tallied (joined pieces))
     → (r .refusal ≡ 0 → BeginsUnswapped entries → AsAnnounced told (length (joined pieces)))
     × (AsAnnounced told (length (joined pieces)) → (r .refusal ≡ 0) × BeginsUnswapped entries)
-one-rule kind carries begun {pieces = pieces} given {stored} {r} c agrees is =
+one-rule kind carries begun {pieces = pieces} given {stored = stored} {r = r} c agrees is =
     let f = joined pieces in
     let opens = carries .comes in
     let kind-is = opened-none kind _ (open-tells kind carries .zero begun .1) .0 in
     let fed = given-fed given (reached-opened kind opens) in
     let v = opened-fed kind _ opens kind-is fed in
     let known : Reached _ = record { state = holding (fresh kind) f; is = v .reader-is; sound = v .sound } in
-    let tells = strict-end-tells known c in (
+    let tells = end-tells known c in (
       (λ ended begins. complete-tallied kind f (v .sound .small) agrees is (told-complete kind carries begun given c ended) begins),
       (λ rule.
           let so = tallied-whole kind f (v .sound .small) agrees is rule in
@@ -201,7 +201,7 @@ one-rule kind carries begun {pieces = pieces} given {stored} {r} c agrees is =
           by-order 0 (r .refusal)
           (λ some.
           let why = tells .above some in
-          absurd (not-both (sym (why .1) ∙ sym (at-state known (c .carries .comes) .answer-is) ∙ said)))
+          absurd (not-both (sym (why .1) ∙ sym (at-state known (c .carries .comes) .steps .answer-is) ∙ said)))
           (λ none. omega (arith, none)) in
           let complete = told-complete kind carries begun given c ended in
           (ended, all-whole complete .1 (λ k h. so .1 k (omega (arith, complete .none-owed))))),

@@ -12,19 +12,19 @@ use Rattle.refusals.specs.Said.{answers}
 use Rattle.refusals.proofs.Said.{passed}
 use Rattle.reader.specs.declared.Reader.{Reader}
 use Rattle.reader.specs.declared.Step.{Step}
-use Rattle.reader.specs.State.{isKind, startOf, blocksIn, opened, owed, Reached}
+use Rattle.reader.specs.State.{isKind, startOf, blocksIn, opened, Reached}
 use Rattle.reader.specs.Calls.{openSaid, afterOpen, Opens}
-use Rattle.reader.specs.History.{StrictCall, OwedCall, joined, Refuses, Called, none, more, leniently, strictly, refused}
+use Rattle.reader.specs.History.{OwedCall, joined, Refuses, Called, none, more, ended, refused}
 use Rattle.reader.proofs.Laws.{at-state, steps-by, reached-by, owed-in-header}
-use Rattle.reader.proofs.Ends.{owed-is, strict-passed}
+use Rattle.reader.proofs.Ends.{owed-is}
 use Rattle.reader.proofs.Total.{reached-opened}
 use Rattle.reader.proofs.Called.{any-calls-counted}
 use Rattle.numbers.specs.declared.Answer.{Answer}
 use Rattle.klovdrun.specs.declared.Opened.{Opened}
 use Rattle.klovdrun.specs.Wrapped.{stepTo, OpenCarries, Advances}
-use Rattle.klovdrun.specs.Hosted.{Told, nothing, taken, not-taken, strict-end, lenient-end}
-use Rattle.klovdrun.proofs.Theorems.{open-tells, piece-tells, strict-end-tells, lenient-end-tells}
-use Rattle.klovdrun.proofs.Hosted.{told-answer, piece-refused, strict-refused, lenient-refused}
+use Rattle.klovdrun.specs.Hosted.{Told, nothing, taken, not-taken, an-end}
+use Rattle.klovdrun.proofs.Theorems.{open-tells, piece-tells, end-tells}
+use Rattle.klovdrun.proofs.Hosted.{told-answer, piece-refused, end-refused}
 
 -- what stands behind what a host is told: calls that brought out so many packets, and that it owes so many in the end
 record Behind (reader : Reader) (pieces : List (List ℕ)) (sum m : ℕ) : Type 0 where
@@ -48,12 +48,6 @@ after-refused first call v =
     told-none first (call .1)
     (record { packets = v .packets; entries = v .entries; last = v .last; called = refused (call .0) (v .called); owes = v .owes })
 
--- a strict end that was answered told none
-strict-none : {reader stored : Reader} {r : Answer} (known : Reached reader) → Advances (StrictCall reader) stored r → r .refusal ≡ 0 → r .first ≡ 0
-strict-none known c answered =
-    let told = strict-end-tells known c .zero answered in
-    told .3 ∙ strict-passed (known .state .phase) _ _ (owed (known .state)) (told .0) (told .1) (λ zero ended. zero) (λ zero full whole owes. zero)
-
 told-behind : {reader : Reader} {m m′ sum : ℕ} {pieces : List (List ℕ)} → Told reader m pieces sum m′ → Reached reader → OwedCall reader m
     → Behind reader pieces sum m′
 told-behind {reader} nothing known owes = record { packets = []; entries = []; last = reader; called = none; owes = owes }
@@ -70,31 +64,17 @@ told-behind (taken {stored = stored} out out′ counts counts′ r c zero after)
 told-behind (not-taken piece out out′ counts counts′ r c some after) known owes =
     let v = told-behind after (reached-by (at-state known (c .carries .comes) .steps)) (c .owed-is) in
     after-refused (r .first) (piece-refused known c some) v
-told-behind (strict-end {stored = stored} r c after) known owes =
-    let step = at-state known (c .carries .comes) in
-    let v = told-behind after (reached-by step) (c .owed-is) in
-    by-order 0 (r .refusal) (λ some. after-refused (r .first) (strict-refused known c some) v)
-    (λ no-refusal.
-    let zero : r .refusal ≡ 0 = omega arith in
-    told-none (r .first) (strict-none known c zero)
-    (record {
-      packets = v .packets;
-      entries = v .entries;
-      last = v .last;
-      called = strictly (stepTo stored (c .carries .answer)) (c .carries .comes) (told-answer (strict-end-tells known c) step zero) (v .called);
-      owes = v .owes;
-    }))
-told-behind (lenient-end {stored = stored} out out′ counts counts′ r c after) known owes =
+told-behind (an-end {stored = stored} choice out out′ counts counts′ r c after) known owes =
     let step = at-state known (c .carries .comes) .steps in
     let v = told-behind after (reached-by step) (c .owed-is) in
-    by-order 0 (r .refusal) (λ some. after-refused (r .first) (lenient-refused known c some) v)
+    by-order 0 (r .refusal) (λ some. after-refused (r .first) (end-refused known c some) v)
     (λ no-refusal.
     let zero : r .refusal ≡ 0 = omega arith in
     record {
       packets = take (42 * r .first) out′ ++ v .packets;
       entries = take (r .first) counts′ ++ v .entries;
       last = v .last;
-      called = leniently out out′ counts counts′ (stepTo stored (c .carries .answer)) (c .carries .comes) (told-answer (lenient-end-tells known c) step zero) (v .called);
+      called = ended choice out out′ counts counts′ (stepTo stored (c .carries .answer)) (c .carries .comes) (told-answer (end-tells known c) step zero) (v .called);
       owes = v .owes;
     })
 
@@ -108,9 +88,9 @@ opened-owes kind n {step} opens said s is sound =
     let first = steps-by (afterOpen kind) (opens .answer-is ∙ said) opens in
     sym (owed-in-header (opened kind) (omega arith)) ∙ sym (owed-is (opened kind) (step .reader) (first .reader-is)) ∙ owed-is s (step .reader) is
 
--- No announced frame goes uncounted, in a host's numbers: after `klov_open` and any calls of `klov_piece`, `klov_strict_end` and
--- `klov_lenient_end`, in any order, refused ones among them, all the first numbers together and the last second number are what the whole
--- blocks of the pieces that were taken announce.
+-- No announced frame goes uncounted, in a host's numbers: after `klov_open` and any calls of `klov_piece` and `klov_end`, by any choice and in
+-- any order, refused ones among them, all the first numbers together and the last second number are what the whole blocks of the pieces that
+-- were taken announce.
 pub told-adds-up : (kind : ℕ) {r : Opened} → OpenCarries kind r → r .answer .refusal ≡ 0 → {pieces : List (List ℕ)} {sum m : ℕ}
     → Told (r .reader) (r .answer .second) pieces sum m
     → r .answer .first + sum + m ≡ announcedIn (joined pieces) (startOf kind) (blocksIn kind (joined pieces))

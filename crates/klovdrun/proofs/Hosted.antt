@@ -10,11 +10,11 @@ use Rattle.sp.specs.Outcome.{demuxedSays}
 use Rattle.reader.specs.declared.Reader.{Reader}
 use Rattle.reader.specs.State.{State, Reached}
 use Rattle.reader.specs.Calls.{Steps}
-use Rattle.reader.specs.History.{PieceCall, StrictCall, LenientCall, Refuses, a-piece, a-strict-end, a-lenient-end}
+use Rattle.reader.specs.History.{PieceCall, EndCall, Refuses, a-piece, an-end}
 use Rattle.reader.proofs.Laws.{at-state}
 use Rattle.numbers.specs.declared.Answer.{Answer}
 use Rattle.klovdrun.specs.Wrapped.{stepTo, Advances, Tells}
-use Rattle.klovdrun.proofs.Theorems.{piece-tells, strict-end-tells, lenient-end-tells}
+use Rattle.klovdrun.proofs.Theorems.{piece-tells, end-tells}
 
 -- a call whose numbers tell what it said: what its answer says, by them
 module _ {numbers : List ℕ} {second : ℕ → ℕ} {other : ℕ} {said : Said ℕ} {next : State} {stored : Reader} {answer : Demuxed} {r : Answer}
@@ -33,13 +33,8 @@ module _ {reader stored : Reader} {r : Answer} (known : Reached reader) where
       let told = told-refusal (piece-tells known c) (at-state known (c .carries .comes) .steps) some in
       (a-piece piece out out′ counts counts′ (stepTo stored (c .carries .answer)) (told .0) (c .carries .comes) (told .1), told .2)
 
-  pub strict-refused : Advances (StrictCall reader) stored r → 0 < r .refusal → Refuses reader stored × (r .first ≡ 0)
-  strict-refused c some =
-      let told = told-refusal (strict-end-tells known c) (at-state known (c .carries .comes)) some in
-      (a-strict-end (stepTo stored (c .carries .answer)) (told .0) (c .carries .comes) (told .1), told .2)
-
-  pub lenient-refused : {out out′ counts counts′ : List ℕ} → Advances (LenientCall reader out out′ counts counts′) stored r → 0 < r .refusal
-      → Refuses reader stored × (r .first ≡ 0)
-  lenient-refused {out} {out′} {counts} {counts′} c some =
-      let told = told-refusal (lenient-end-tells known c) (at-state known (c .carries .comes) .steps) some in
-      (a-lenient-end out out′ counts counts′ (stepTo stored (c .carries .answer)) (told .0) (c .carries .comes) (told .1), told .2)
+  pub end-refused : {choice : ℕ} {out out′ counts counts′ : List ℕ} → Advances (EndCall reader choice out out′ counts counts′) stored r
+      → 0 < r .refusal → Refuses reader stored × (r .first ≡ 0)
+  end-refused {choice} {out} {out′} {counts} {counts′} c some =
+      let told = told-refusal (end-tells known c) (at-state known (c .carries .comes) .steps) some in
+      (an-end choice out out′ counts counts′ (stepTo stored (c .carries .answer)) (told .0) (c .carries .comes) (told .1), told .2)

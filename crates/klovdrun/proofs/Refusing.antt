@@ -2,11 +2,13 @@
 -- Assumes nothing.
 use Prim.Native.Nat.{ℕ, _+_, _*_}
 use mathlib.Core.Path.{_≡_, refl, sym, subst}
-use mathlib.Core.List.{List, _++_}
+use mathlib.Core.List.{List, [], _∷_, _++_}
 use mathlib.Core.Bool.{Bool, true, false, not, cond}
 use lib.ListN.{length, getD, drop}
 use lib.Dec.{eqb, leb, ltb}
+use Rattle.tables.proofs.Cases.{by-test}
 use Rattle.blocks.specs.Places.{limit}
+use Rattle.refusals.specs.Numbers.{numbered}
 use Rattle.refusals.specs.Said.{Said, isAmong, Numbered}
 use Rattle.refusals.proofs.Said.{by-said}
 use Rattle.refusals.proofs.Numbered.{answered, refused-so, asked, goes-on, hasAll, wider}
@@ -34,8 +36,8 @@ use Rattle.finding.specs.Finding.{foundIn, entryFound}
 use Rattle.finding.specs.Packet.{packetFound}
 use Rattle.finding.proofs.Theorems.{found-by-reading, entry-has-the-packet, packet-by-entry, refused-alike}
 use Rattle.reader.specs.State.{State, isKind, startOf, owed, fitsBy, headerDone}
-use Rattle.reader.specs.Calls.{openSaid, brings, pieceSaid, inBlock, strictBy, strictSaid, lenientSaid}
-use Rattle.klovdrun.specs.Refusals.{payloadRefusals, dssRefusals, ds2Refusals, packetRefusals, qpRefusals, qp7Refusals, fetchRefusals, openRefusals, pieceRefusals, strictRefusals, lenientRefusals, writeRefusals, buildRefusals, readRefusals, findRefusals, indexedRefusals}
+use Rattle.reader.specs.Calls.{openSaid, brings, pieceSaid, inBlock, strictBy, lenientBy, strict, lenient, endSaid}
+use Rattle.klovdrun.specs.Refusals.{payloadRefusals, dssRefusals, ds2Refusals, packetRefusals, qpRefusals, qp7Refusals, fetchRefusals, openRefusals, pieceRefusals, endRefusals, refusalsBy, writeRefusals, buildRefusals, readRefusals, findRefusals, indexedRefusals}
 
 -- a payload
 pub payload-numbered : (f : List ℕ) (block : ℕ) → Numbered payloadRefusals (payloadPlace f block)
@@ -160,7 +162,7 @@ either : {numbers : List ℕ} (test : Bool) {one other : Said ℕ} → Numbered 
 either true is else = is
 either false is else = else
 
-pub strict-numbered : (s : State) → Numbered strictRefusals (strictSaid s)
+strict-numbered : (s : State) → Numbered (refusalsBy strict) (strictBy (s .phase) (startOf (s .kind)) (length (s .bytes)) (owed s))
 unfolding strictBy isAmong
 strict-numbered s =
     asked (not (eqb (s .phase) 1)) 6 0 refl
@@ -169,6 +171,28 @@ strict-numbered s =
     (asked (eqb (inBlock (startOf (s .kind)) (length (s .bytes))) 0) 13 _ refl
     (asked (eqb (owed s) 0) 14 _ refl (answered 0)))))
 
-pub lenient-numbered : (s : State) (room : ℕ) → Numbered lenientRefusals (lenientSaid s room)
-unfolding lenientSaid isAmong
+lenient-numbered : (s : State) (room : ℕ) → Numbered (refusalsBy lenient) (lenientBy (startOf (s .kind)) (length (s .bytes)) (owed s) room)
+unfolding lenientBy isAmong
 lenient-numbered s room = asked (headerDone s) 3 _ refl (answered _)
+
+pub end-numbered : (s : State) (choice room : ℕ) → Numbered (refusalsBy choice) (endSaid s choice room)
+unfolding isAmong
+end-numbered s choice room =
+    by-test (eqb choice strict) (λ e. rw e (strict-numbered s))
+    (λ not-strict.
+    by-test (eqb choice lenient) (λ e. rw (not-strict, e) (lenient-numbered s room))
+    (λ not-lenient. rw (not-strict, not-lenient) (refused-so (numbered 22 0) refl (λ of-record. (refl, refl)))))
+
+-- what holds of each of an end's three lists: none of its numbers is 0, and all of them are in the end's own
+of-each : (P : List ℕ → Type 0) → P (6 ∷ 3 ∷ 13 ∷ 14 ∷ []) → P (3 ∷ []) → P (22 ∷ []) → (choice : ℕ) → P (refusalsBy choice)
+of-each P one other neither choice =
+    by-test (eqb choice strict) (λ e. rw e one)
+    (λ not-strict. by-test (eqb choice lenient) (λ e. rw (not-strict, e) other) (λ not-lenient. rw (not-strict, not-lenient) neither))
+
+pub none-by-0 : (choice : ℕ) → isAmong (refusalsBy choice) 0 ≡ false
+unfolding isAmong
+none-by-0 = of-each (λ numbers. isAmong numbers 0 ≡ false) refl refl refl
+
+pub all-listed : (choice : ℕ) → hasAll endRefusals (refusalsBy choice) ≡ true
+unfolding isAmong hasAll
+all-listed = of-each (λ numbers. hasAll endRefusals numbers ≡ true) refl refl refl

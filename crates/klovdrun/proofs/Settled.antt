@@ -1,5 +1,5 @@
 -- Two outcomes of an export that its contract allows for the same arguments are equal: its numbers, and all that was lent to it. The
--- contract is the one in the source, as the check reads it; of the three that advance a reader, which the check's own walk does not
+-- contract is the one in the source, as the check reads it; of the two that advance a reader, which the check's own walk does not
 -- cover, it is what their contracts cite. Assumes nothing.
 use Prim.Native.Nat.{ℕ}
 use mathlib.Core.Path.{_≡_, sym, ap, _∙_}
@@ -24,8 +24,8 @@ use Rattle.index.proofs.Theorems.{only-built}
 use Rattle.reader.specs.declared.Reader.{Reader}
 use Rattle.reader.specs.declared.Step.{Step}
 use Rattle.reader.specs.State.{Reached}
-use Rattle.reader.specs.History.{PieceCall, StrictCall, LenientCall, OwedCall}
-use Rattle.reader.proofs.Total.{only-opened, reached-piece, only-piece, reached-strict, only-strict, reached-lenient, only-lenient, only-owed}
+use Rattle.reader.specs.History.{PieceCall, EndCall, OwedCall}
+use Rattle.reader.proofs.Total.{only-opened, reached-piece, only-piece, reached-end, only-end, only-owed}
 use Rattle.numbers.specs.declared.Answer.{Answer}
 use Rattle.numbers.specs.Numbers.{oneNumber, qpNumbers, qp7Numbers, standNumbers, owingNumbers, builtNumbers}
 use Rattle.klovdrun.specs.Wrapped.{SpCarries, Advances, stepTo}
@@ -196,18 +196,11 @@ module _ {reader : Reader} (known : Reached reader) where
       let a = advanced (reached-piece known (p .carries .comes)) (e .0) (p .owed-is) (q .owed-is) (p .carries .numbers-are) (q .carries .numbers-are) in
       (a .0, a .1, e .1, e .2)
 
-  -- `klov_strict_end`: the numbers and the reader that is stored
-  pub klov-strict-end-settled : {stored₁ stored₂ : Reader} {r₁ r₂ : Answer} → Advances (StrictCall reader) stored₁ r₁
-      → Advances (StrictCall reader) stored₂ r₂ → (r₁ ≡ r₂) × (stored₁ ≡ stored₂)
-  klov-strict-end-settled p q =
-      advanced (reached-strict known (p .carries .comes)) (only-strict known (p .carries .comes) (q .carries .comes)) (p .owed-is) (q .owed-is)
-      (p .carries .numbers-are) (q .carries .numbers-are)
-
-  -- `klov_lenient_end`: as of a piece
-  pub klov-lenient-end-settled : {out out₁ out₂ counts counts₁ counts₂ : List ℕ} {stored₁ stored₂ : Reader} {r₁ r₂ : Answer}
-      → Advances (LenientCall reader out out₁ counts counts₁) stored₁ r₁ → Advances (LenientCall reader out out₂ counts counts₂) stored₂ r₂
+  -- `klov_end`: as of a piece, by any choice
+  pub klov-end-settled : {choice : ℕ} {out out₁ out₂ counts counts₁ counts₂ : List ℕ} {stored₁ stored₂ : Reader} {r₁ r₂ : Answer}
+      → Advances (EndCall reader choice out out₁ counts counts₁) stored₁ r₁ → Advances (EndCall reader choice out out₂ counts counts₂) stored₂ r₂
       → (r₁ ≡ r₂) × (stored₁ ≡ stored₂) × (out₁ ≡ out₂) × (counts₁ ≡ counts₂)
-  klov-lenient-end-settled p q =
-      let e = only-lenient known (p .carries .comes) (q .carries .comes) in
-      let a = advanced (reached-lenient known (p .carries .comes)) (e .0) (p .owed-is) (q .owed-is) (p .carries .numbers-are) (q .carries .numbers-are) in
+  klov-end-settled p q =
+      let e = only-end known (p .carries .comes) (q .carries .comes) in
+      let a = advanced (reached-end known (p .carries .comes)) (e .0) (p .owed-is) (q .owed-is) (p .carries .numbers-are) (q .carries .numbers-are) in
       (a .0, a .1, e .1, e .2)

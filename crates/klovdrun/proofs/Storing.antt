@@ -1,4 +1,4 @@
--- What the exports have in common that advance a reader where it stands: klov_piece, klov_strict_end and klov_lenient_end. Each copies the
+-- What the exports have in common that advance a reader where it stands: klov_piece and klov_end. Each copies the
 -- reader out from behind its reference, lends its buffers on to the reader's method, stores the reader that comes back, and returns the
 -- numbers of the step. The prover's own walk does not cover a reference to a struct, so each is a walk of its MIR by hand, by the rules below.
 -- A rule that needs a local asks where it stands, `spotOf … n ≡ …`: that is refl once the locals are allocated. Assumes nothing.

@@ -37,18 +37,18 @@ use Rattle.tally.specs.Tallies.{tallied, tallyRefusals}
 use Rattle.tally.proofs.Theorems.{refused-by}
 use Rattle.reader.specs.declared.Reader.{Reader}
 use Rattle.reader.specs.State.{State, owed, Reached}
-use Rattle.reader.specs.Calls.{openSaid, pieceSaid, afterPiece, strictSaid, afterStrict, lenientSaid, afterLenient, Steps}
-use Rattle.reader.specs.History.{PieceCall, StrictCall, LenientCall, OwedCall}
+use Rattle.reader.specs.Calls.{openSaid, pieceSaid, afterPiece, endSaid, afterEnd, handedBy, Steps}
+use Rattle.reader.specs.History.{PieceCall, EndCall, OwedCall}
 use Rattle.reader.proofs.Laws.{at-state}
-use Rattle.reader.proofs.Total.{refused-piece-keeps, refused-strict-keeps, refused-lenient-keeps}
+use Rattle.reader.proofs.Total.{refused-piece-keeps, refused-end-keeps, strict-end-hands-nothing, ends-by-number}
 use Rattle.numbers.specs.declared.Answer.{Answer}
 use Rattle.klovdrun.specs.declared.Opened.{Opened}
 use Rattle.numbers.specs.declared.Tallied.{Tallied}
 use Rattle.numbers.specs.declared.Entry.{Entry as Shown}
 use Rattle.numbers.specs.Numbers.{numbersOr, oneNumber, qpNumbers, qp7Numbers, whereNumber, placeNumber, standNumbers, owingNumbers, tallyNumbers, builtNumbers, readNumbers, entryNumbers}
 use Rattle.klovdrun.specs.Wrapped.{SpCarries, QpCarries, Qp7Carries, FillCarries, WriteCarries, BuildCarries, stepTo, OpenCarries, Advances, Tells, ofEntry, ofTally}
-use Rattle.klovdrun.specs.Refusals.{payloadRefusals, dssRefusals, ds2Refusals, packetRefusals, qpRefusals, qp7Refusals, fetchRefusals, openRefusals, pieceRefusals, strictRefusals, lenientRefusals, writeRefusals, buildRefusals, readRefusals, findRefusals, indexedRefusals}
-use Rattle.klovdrun.proofs.Refusing.{payload-numbered, dss-numbered, ds2-numbered, packet-numbered, packets-numbered, segments-numbered, records-numbered, fetch-numbered, open-numbered, piece-numbered, strict-numbered, lenient-numbered, write-numbered, build-numbered, read-numbered, find-numbered, indexed-numbered}
+use Rattle.klovdrun.specs.Refusals.{payloadRefusals, dssRefusals, ds2Refusals, packetRefusals, qpRefusals, qp7Refusals, fetchRefusals, openRefusals, pieceRefusals, refusalsBy, writeRefusals, buildRefusals, readRefusals, findRefusals, indexedRefusals}
+use Rattle.klovdrun.proofs.Refusing.{payload-numbered, dss-numbered, ds2-numbered, packet-numbered, packets-numbered, segments-numbered, records-numbered, fetch-numbered, open-numbered, piece-numbered, none-by-0, end-numbered, write-numbered, build-numbered, read-numbered, find-numbered, indexed-numbered}
 
 tells : {A : Type 0} {numbers : List ℕ} (first second : A → ℕ) (other : ℕ) (said : Said A) → isAmong numbers 0 ≡ false → Numbered numbers said
     → {r : Answer} → r ≡ numbersOr first second other said → Tells numbers first second other said r
@@ -270,29 +270,35 @@ module _ {reader : Reader} (known : Reached reader) where
         let why = piece-tells .above some in
         refused-piece-keeps known (c .carries .comes) (why .0) (at-state known (c .carries .comes) .steps .answer-is ∙ why .1)
 
-  -- `klov_strict_end`
-  module _ {stored : Reader} {r : Answer} (c : Advances (StrictCall reader) stored r) where
-    pub strict-end-tells : Tells strictRefusals (λ n. n) (λ n. owed (afterStrict s (answers n))) (owed s) (strictSaid s) r
-    unfolding isAmong
-    strict-end-tells =
-        advanced-tells s (afterStrict s) (λ why. refl) (strictSaid s) refl (strict-numbered s) (at-state known (c .carries .comes))
-        (c .carries .numbers-are) (c .owed-is)
-
-    pub strict-end-refused-changes-nothing : 0 < r .refusal → stored ≡ reader
-    strict-end-refused-changes-nothing some =
-        let why = strict-end-tells .above some in
-        refused-strict-keeps known (c .carries .comes) (why .0) (at-state known (c .carries .comes) .answer-is ∙ why .1)
-
-  -- `klov_lenient_end`
-  module _ {stored : Reader} {r : Answer} {out out′ counts counts′ : List ℕ}
-      (c : Advances (LenientCall reader out out′ counts counts′) stored r) where
-    pub lenient-end-tells : Tells lenientRefusals (λ n. n) (λ n. owed (afterLenient s (answers n))) (owed s) (lenientSaid s (roomIn out counts)) r
-    unfolding isAmong
-    lenient-end-tells =
-        advanced-tells s (afterLenient s) (λ why. refl) (lenientSaid s (roomIn out counts)) refl (lenient-numbered s (roomIn out counts))
+  -- `klov_end`, by any choice
+  module _ {stored : Reader} {r : Answer} {choice : ℕ} {out out′ counts counts′ : List ℕ}
+      (c : Advances (EndCall reader choice out out′ counts counts′) stored r) where
+    pub end-tells : Tells (refusalsBy choice) (λ n. n) (λ n. owed (afterEnd s (answers n))) (owed s) (endSaid s choice (roomIn out counts)) r
+    end-tells =
+        advanced-tells s (afterEnd s) (λ why. refl) (endSaid s choice (roomIn out counts)) (none-by-0 choice) (end-numbered s choice (roomIn out counts))
         (at-state known (c .carries .comes) .steps) (c .carries .numbers-are) (c .owed-is)
 
-    pub lenient-end-refused-changes-nothing : 0 < r .refusal → (stored ≡ reader) × (out′ ≡ out) × (counts′ ≡ counts)
-    lenient-end-refused-changes-nothing some =
-        let why = lenient-end-tells .above some in
-        refused-lenient-keeps known (c .carries .comes) (why .0) (at-state known (c .carries .comes) .steps .answer-is ∙ why .1)
+    pub end-refused-changes-nothing : 0 < r .refusal → (stored ≡ reader) × (out′ ≡ out) × (counts′ ≡ counts)
+    end-refused-changes-nothing some =
+        let why = end-tells .above some in
+        refused-end-keeps known (c .carries .comes) (why .0) (at-state known (c .carries .comes) .steps .answer-is ∙ why .1)
+
+  -- With 0, the strict end, it tells no packets and writes nothing, answered or refused.
+  pub strict-end-writes-nothing : {stored : Reader} {r : Answer} {out out′ counts counts′ : List ℕ}
+      → Advances (EndCall reader 0 out out′ counts counts′) stored r → (r .first ≡ 0) × (out′ ≡ out) × (counts′ ≡ counts)
+  strict-end-writes-nothing {r = r} c =
+      let v = strict-end-hands-nothing known (c .carries .comes) in
+      let told = told-handed (r .second) (demuxedSays (c .carries .answer)) in
+      (ap (λ (x : Answer). x .first) (c .carries .numbers-are) ∙ told ∙ v .0, v .1, v .2)
+    where
+      told-handed : (second : ℕ) (said : Said ℕ) → owingNumbers second said .first ≡ handedBy said
+      told-handed second (answers n) = refl
+      told-handed second (refusal why) = refl
+
+  -- With a choice above 1, neither end, it is refused by 22 and 0 beside it, whatever state the reader is in.
+  pub other-choice-told : {stored : Reader} {r : Answer} {choice : ℕ} {out out′ counts counts′ : List ℕ}
+      → Advances (EndCall reader choice out out′ counts counts′) stored r → 1 < choice → (r .refusal ≡ 22) × (r .beside ≡ 0)
+  other-choice-told {r = r} {choice = choice} {out = out} {counts = counts} c other =
+      let said = ends-by-number s (roomIn out counts) .2 choice other in
+      let numbers = c .carries .numbers-are ∙ ap (owingNumbers (r .second)) (at-state known (c .carries .comes) .steps .answer-is ∙ said) in
+      (ap (λ (x : Answer). x .refusal) numbers, ap (λ (x : Answer). x .beside) numbers)

@@ -5,7 +5,7 @@ use mathlib.Core.Path.{_≡_}
 use mathlib.Core.List.{List, [], _∷_, _++_}
 use lib.ListN.{take}
 use Rattle.reader.specs.declared.Reader.{Reader}
-use Rattle.reader.specs.History.{PieceCall, StrictCall, LenientCall}
+use Rattle.reader.specs.History.{PieceCall, EndCall}
 use Rattle.numbers.specs.declared.Answer.{Answer}
 use Rattle.klovdrun.specs.Wrapped.{Advances}
 
@@ -18,13 +18,11 @@ pub data Told : Reader → ℕ → List (List ℕ) → ℕ → ℕ → Type 0 wh
   not-taken : {reader stored : Reader} {m m′ sum : ℕ} {pieces : List (List ℕ)} (piece out out′ counts counts′ : List ℕ) (r : Answer)
       → Advances (PieceCall reader piece out out′ counts counts′) stored r → 0 < r .refusal → Told stored (r .second) pieces sum m′
       → Told reader m pieces (r .first + sum) m′
-  strict-end : {reader stored : Reader} {m m′ sum : ℕ} {pieces : List (List ℕ)} (r : Answer) → Advances (StrictCall reader) stored r
-      → Told stored (r .second) pieces sum m′ → Told reader m pieces (r .first + sum) m′
-  lenient-end : {reader stored : Reader} {m m′ sum : ℕ} {pieces : List (List ℕ)} (out out′ counts counts′ : List ℕ) (r : Answer)
-      → Advances (LenientCall reader out out′ counts counts′) stored r → Told stored (r .second) pieces sum m′
+  an-end : {reader stored : Reader} {m m′ sum : ℕ} {pieces : List (List ℕ)} (choice : ℕ) (out out′ counts counts′ : List ℕ) (r : Answer)
+      → Advances (EndCall reader choice out out′ counts counts′) stored r → Told stored (r .second) pieces sum m′
       → Told reader m pieces (r .first + sum) m′
 
--- a host gave these pieces to a reader that stands there, which took them; whatever else it asked, an end or a piece, was refused
+-- a host gave these pieces to a reader that stands there, which took them; whatever else it asked, a piece or an end by any choice, was refused
 pub data Given : Reader → List (List ℕ) → ℕ → List ℕ → List ℕ → Reader → Type 0 where
   nothing : {reader : Reader} → Given reader [] 0 [] [] reader
   taken : {reader stored last : Reader} {piece : List ℕ} {rest : List (List ℕ)} {m : ℕ} {packets entries : List ℕ}
@@ -34,8 +32,6 @@ pub data Given : Reader → List (List ℕ) → ℕ → List ℕ → List ℕ �
   not-taken : {reader stored last : Reader} {pieces : List (List ℕ)} {n : ℕ} {packets entries : List ℕ}
       (piece out out′ counts counts′ : List ℕ) (r : Answer) → Advances (PieceCall reader piece out out′ counts counts′) stored r → 0 < r .refusal
       → Given stored pieces n packets entries last → Given reader pieces n packets entries last
-  no-strict-end : {reader stored last : Reader} {pieces : List (List ℕ)} {n : ℕ} {packets entries : List ℕ} (r : Answer)
-      → Advances (StrictCall reader) stored r → 0 < r .refusal → Given stored pieces n packets entries last → Given reader pieces n packets entries last
-  no-lenient-end : {reader stored last : Reader} {pieces : List (List ℕ)} {n : ℕ} {packets entries : List ℕ}
-      (out out′ counts counts′ : List ℕ) (r : Answer) → Advances (LenientCall reader out out′ counts counts′) stored r → 0 < r .refusal
+  no-end : {reader stored last : Reader} {pieces : List (List ℕ)} {n : ℕ} {packets entries : List ℕ} (choice : ℕ)
+      (out out′ counts counts′ : List ℕ) (r : Answer) → Advances (EndCall reader choice out out′ counts counts′) stored r → 0 < r .refusal
       → Given stored pieces n packets entries last → Given reader pieces n packets entries last

@@ -2,6 +2,9 @@
 -- (`tallyRefusals`). Assumes nothing.
 use Prim.Native.Nat.{ℕ}
 use mathlib.Core.List.{List, [], _∷_}
+use mathlib.Core.Bool.{cond}
+use lib.Dec.{eqb}
+use Rattle.reader.specs.Calls.{strict, lenient}
 
 -- `klov_payload`
 abbrev pub payloadRefusals : List ℕ
@@ -39,13 +42,13 @@ openRefusals = 10 ∷ []
 abbrev pub pieceRefusals : List ℕ
 pieceRefusals = 6 ∷ 2 ∷ 7 ∷ 8 ∷ []
 
--- `klov_strict_end`
-abbrev pub strictRefusals : List ℕ
-strictRefusals = 6 ∷ 3 ∷ 13 ∷ 14 ∷ []
+-- `klov_end`
+abbrev pub endRefusals : List ℕ
+endRefusals = 6 ∷ 22 ∷ 3 ∷ 13 ∷ 14 ∷ []
 
--- `klov_lenient_end`
-abbrev pub lenientRefusals : List ℕ
-lenientRefusals = 3 ∷ []
+-- and of these the strict end's, the lenient end's, and what every other choice gets
+abbrev pub refusalsBy : ℕ → List ℕ
+refusalsBy choice = cond (eqb choice strict) (6 ∷ 3 ∷ 13 ∷ 14 ∷ []) (cond (eqb choice lenient) (3 ∷ []) (22 ∷ []))
 
 -- `klov_write_ds2_sp`
 abbrev pub writeRefusals : List ℕ

@@ -25,13 +25,13 @@ ghost use Rattle.index.specs.Outcome.{totalled};
 ghost use Rattle.finding.specs.Finding.{entryFound};
 ghost use Rattle.finding.specs.Packet.{packetFound};
 ghost use Rattle.reader.specs.State.{Reached};
-ghost use Rattle.reader.specs.History.{PieceCall, StrictCall, LenientCall};
+ghost use Rattle.reader.specs.History.{PieceCall, EndCall};
 ghost use Rattle.numbers.specs.Numbers.{formatNumber, truthNumber, oneNumber, foundNumbers, standNumbers, tallyNumbers, readNumbers, entryNumbers};
 ghost use Rattle.klovdrun.specs.Version.{version};
 ghost use Rattle.klovdrun.specs.Wrapped.{SpCarries, QpCarries, Qp7Carries, FillCarries, WriteCarries, BuildCarries, OpenCarries, Advances};
 
 // The version of the boundary.
-const VERSION: u64 = 4;
+const VERSION: u64 = 5;
 
 // A fresh reader beside the answer.
 #[repr(C)]
@@ -211,24 +211,18 @@ pub extern "C" fn klov_piece(
     numbers::of_step(step)
 }
 
-// The strict end, where the reader stands. First: 0. Second: frames owed afterwards, refused or not.
+// An end, where the reader stands, strict or lenient by the choice. First: packets. Second: frames owed afterwards, refused or not.
 #[no_mangle]
-pub extern "C" fn klov_strict_end(reader: &mut Reader) -> Answer
+pub extern "C" fn klov_end(
+    reader: &mut Reader,
+    choice: u64,
+    out: &mut [u8],
+    counts: &mut [u8],
+) -> Answer
     requires { ⌜ Reached (now reader) ⌝ }
-    ensures { λ r. ⌜ Advances (StrictCall (now (reader .entry))) (now (reader .exit)) r ⌝ }
+    ensures { λ r. ⌜ Advances (EndCall (now (reader .entry)) choice (now (out .entry)) (now (out .exit)) (now (counts .entry)) (now (counts .exit))) (now (reader .exit)) r ⌝ }
 {
-    let step = (*reader).strict_end();
-    *reader = step.reader;
-    numbers::of_step(step)
-}
-
-// The lenient end, where the reader stands. First: packets. Second: frames owed afterwards, refused or not.
-#[no_mangle]
-pub extern "C" fn klov_lenient_end(reader: &mut Reader, out: &mut [u8], counts: &mut [u8]) -> Answer
-    requires { ⌜ Reached (now reader) ⌝ }
-    ensures { λ r. ⌜ Advances (LenientCall (now (reader .entry)) (now (out .entry)) (now (out .exit)) (now (counts .entry)) (now (counts .exit))) (now (reader .exit)) r ⌝ }
-{
-    let step = (*reader).lenient_end(out, counts);
+    let step = (*reader).end(choice, out, counts);
     *reader = step.reader;
     numbers::of_step(step)
 }

@@ -5,7 +5,7 @@ use mathlib.Core.Path.{_≡_, refl, sym, ap, _∙_, subst}
 use mathlib.Core.Bool.{true}
 use mathlib.Core.List.{List, [], _∷_, _++_, append-assoc}
 use native.Mathlib.Omega.{arith}
-use lib.ListN.{take}
+use lib.ListN.{length, take}
 use lib.Dec.{eqb}
 use Rattle.tables.proofs.Cases.{by-test}
 use Rattle.blocks.specs.Headers.{announcedIn}
@@ -15,11 +15,11 @@ use Rattle.sp.specs.Outcome.{roomIn, demuxedSays}
 use Rattle.reader.specs.declared.Reader.{Reader}
 use Rattle.reader.specs.declared.Step.{Step}
 use Rattle.reader.specs.State.{State, isKind, startOf, blocksIn, opened, owed, readerOf, Sound, Reached}
-use Rattle.reader.specs.Calls.{afterPiece, afterStrict, afterLenient, Opens}
-use Rattle.reader.specs.History.{StrictCall, LenientCall, OwedCall, packetsFrom, countsFrom, joined, Fed, Drained, none, more, leniently, strictly, refused, Called, InTwo}
+use Rattle.reader.specs.Calls.{afterPiece, afterEnd, Opens}
+use Rattle.reader.specs.History.{EndCall, OwedCall, packetsFrom, countsFrom, joined, Fed, Drained, none, more, strictly, ended, refused, Called, InTwo}
 use Rattle.reader.specs.Agreement.{wholeReading, Agrees}
 use Rattle.reader.proofs.Laws.{steps-by, reached-by, piece-accepted}
-use Rattle.reader.proofs.Ends.{owed-is}
+use Rattle.reader.proofs.Ends.{owed-is, end-passed, strict-none}
 use Rattle.reader.proofs.Folding.{kept-by, holding, opened-fed}
 use Rattle.reader.proofs.Counted.{none-uncounted, handed-with-owed}
 use Rattle.reader.proofs.Equal.{pieces-are-whole}
@@ -30,32 +30,52 @@ record Ended (reader : Reader) (pieces : List (List ℕ)) (n : ℕ) (packets ent
   pub rooms : List ℕ
   pub drained : Drained reader rooms n packets entries last
 
-ends-leniently : {reader last : Reader} {pieces : List (List ℕ)} {n m : ℕ} {packets entries : List ℕ} (out out′ counts counts′ : List ℕ) (step : Step)
-    → LenientCall reader out out′ counts counts′ step → demuxedSays (step .answer) ≡ answers n → Ended (step .reader) pieces m packets entries last
+-- an end that hands out nothing
+none-more : {reader last : Reader} {rooms : List ℕ} {m : ℕ} {packets entries : List ℕ} (n : ℕ) (out counts : List ℕ) → n ≡ 0
+    → Drained reader rooms m packets entries last → Drained reader rooms (n + m) (take (42 * n) out ++ packets) (take n counts ++ entries) last
+none-more {reader} {last} {rooms} {m} {packets} {entries} n out counts is v =
+    let same : m ≡ 0 + m = omega arith in
+    subst (λ (n : ℕ). Drained reader rooms (n + m) (take (42 * n) out ++ packets) (take n counts ++ entries) last) (sym is)
+    (subst (λ (m : ℕ). Drained reader rooms m packets entries last) same v)
+
+-- an end by either choice, and then those
+ends-then : {reader last : Reader} {pieces : List (List ℕ)} {n m : ℕ} {packets entries : List ℕ} (choice : ℕ) (out out′ counts counts′ : List ℕ)
+    (step : Step) (s : State) → reader ≡ readerOf s → Sound s → EndCall reader choice out out′ counts counts′ step
+    → demuxedSays (step .answer) ≡ answers n → Ended (step .reader) pieces m packets entries last
     → Ended reader pieces (n + m) (take (42 * n) out′ ++ packets) (take n counts′ ++ entries) last
-ends-leniently out out′ counts counts′ step call said v =
-    record { no-pieces = v .no-pieces; rooms = roomIn out counts ∷ v .rooms; drained = more out out′ counts counts′ step refl call said (v .drained) }
+ends-then {reader} {n = n} choice out out′ counts counts′ step s e sound call said v =
+    let answer = sym (call s e sound .steps .answer-is) ∙ said in
+    end-passed choice (s .phase) (startOf (s .kind)) (length (s .bytes)) (owed s) (roomIn out counts) answer
+    (λ is passed.
+    record {
+      no-pieces = v .no-pieces;
+      rooms = v .rooms;
+      drained = none-more n out′ counts′ (strict-none sound (roomIn out counts) passed .0) (strictly out out′ counts counts′ step (meant is) said (v .drained));
+    })
+    (λ is full many.
+    record {
+      no-pieces = v .no-pieces;
+      rooms = roomIn out counts ∷ v .rooms;
+      drained = more out out′ counts counts′ step refl (meant is) said (v .drained);
+    })
+  where
+    meant : {c : ℕ} → choice ≡ c → EndCall reader c out out′ counts counts′ step
+    meant is = subst (λ (c : ℕ). EndCall reader c out out′ counts counts′ step) is call
 
-ends-strictly : {reader last : Reader} {pieces : List (List ℕ)} {n m : ℕ} {packets entries : List ℕ} (step : Step) → StrictCall reader step
-    → demuxedSays (step .answer) ≡ answers m → Ended (step .reader) pieces n packets entries last → Ended reader pieces n packets entries last
-ends-strictly step call said v = record { no-pieces = v .no-pieces; rooms = v .rooms; drained = strictly step call said (v .drained) }
-
-end-phase : (s : State) (n : ℕ) → afterLenient s (answers n) .phase ≡ 0 → ⊥
+end-phase : (s : State) (n : ℕ) → afterEnd s (answers n) .phase ≡ 0 → ⊥
 end-phase s n e = by-test (eqb n (owed s)) (λ t. omega (arith, simp t at e)) (λ t. omega (arith, simp t at e))
 
 after-end : {reader last : Reader} {pieces : List (List ℕ)} {n : ℕ} {packets entries : List ℕ} → Called reader pieces n packets entries last
     → (s : State) → reader ≡ readerOf s → Sound s → (s .phase ≡ 0 → ⊥) → Ended reader pieces n packets entries last
-after-end none s e sound ended = record { no-pieces = refl; rooms = []; drained = none }
-after-end (more {piece = piece} {n = n} out out′ counts counts′ step call said after) s e sound ended =
-    absurd (ended (piece-accepted s piece (roomIn out counts) n (sym (call s e sound .steps .answer-is) ∙ said) .0))
-after-end (leniently {n = n} out out′ counts counts′ step call said after) s e sound ended =
-    let next = steps-by (afterLenient s) said (call s e sound .steps) in
-    ends-leniently out out′ counts counts′ step call said (after-end after (afterLenient s (answers n)) (next .reader-is) (next .sound) (end-phase s n))
-after-end (strictly {m = m} step call said after) s e sound ended =
-    let next = steps-by (afterStrict s) said (call s e sound) in
-    ends-strictly step call said (after-end after (afterStrict s (answers m)) (next .reader-is) (next .sound) (λ e. omega (arith, e)))
-after-end (refused call after) s e sound ended =
-    let v = after-end after s (kept-by call s e sound) sound ended in
+after-end none s e sound was = record { no-pieces = refl; rooms = []; drained = none }
+after-end (more {piece = piece} {n = n} out out′ counts counts′ step call said after) s e sound was =
+    absurd (was (piece-accepted s piece (roomIn out counts) n (sym (call s e sound .steps .answer-is) ∙ said) .0))
+after-end (ended {n = n} choice out out′ counts counts′ step call said after) s e sound was =
+    let next = steps-by (afterEnd s) said (call s e sound .steps) in
+    ends-then choice out out′ counts counts′ step s e sound call said
+    (after-end after (afterEnd s (answers n)) (next .reader-is) (next .sound) (end-phase s n))
+after-end (refused call after) s e sound was =
+    let v = after-end after s (kept-by call s e sound) sound was in
     record { no-pieces = v .no-pieces; rooms = v .rooms; drained = refused call (v .drained) }
 
 -- a reader that was ended: all of it is the second part
@@ -99,14 +119,10 @@ in-two-at (more {piece = piece} {n = n} out out′ counts counts′ step call sa
       packets-are = ap (λ (l : List ℕ). take (42 * n) out′ ++ l) (v .packets-are) ∙ sym (append-assoc (take (42 * n) out′) (v .packets₁) (v .packets₂));
       entries-are = ap (λ (l : List ℕ). take n counts′ ++ l) (v .entries-are) ∙ sym (append-assoc (take n counts′) (v .entries₁) (v .entries₂));
     }
-in-two-at (leniently {n = n} out out′ counts counts′ step call said after) s e sound =
-    let next = steps-by (afterLenient s) said (call s e sound .steps) in
-    let v = after-end after (afterLenient s (answers n)) (next .reader-is) (next .sound) (end-phase s n) in
-    ended-in-two (ends-leniently out out′ counts counts′ step call said v)
-in-two-at (strictly {m = m} step call said after) s e sound =
-    let next = steps-by (afterStrict s) said (call s e sound) in
-    let v = after-end after (afterStrict s (answers m)) (next .reader-is) (next .sound) (λ e. omega (arith, e)) in
-    ended-in-two (ends-strictly step call said v)
+in-two-at (ended {n = n} choice out out′ counts counts′ step call said after) s e sound =
+    let next = steps-by (afterEnd s) said (call s e sound .steps) in
+    let v = after-end after (afterEnd s (answers n)) (next .reader-is) (next .sound) (end-phase s n) in
+    ended-in-two (ends-then choice out out′ counts counts′ step s e sound call said v)
 in-two-at (refused call after) s e sound =
     let v = in-two-at after s (kept-by call s e sound) sound in
     record {

@@ -25,8 +25,8 @@ use Rattle.hold.proofs.Ready.{total-is, ready-within, ready-complete, all-ready
 use Rattle.reader.specs.declared.Reader.{Reader}
 use Rattle.reader.specs.declared.Step.{Step}
 use Rattle.reader.specs.State.{isKind, isDss, startOf, blocksIn, readingBy, opened, owed, headerFull}
-use Rattle.reader.specs.Calls.{Opens}
-use Rattle.reader.specs.History.{countsFrom, StrictCall, joined, Fed}
+use Rattle.reader.specs.Calls.{strict, Opens}
+use Rattle.reader.specs.History.{countsFrom, EndCall, joined, Fed}
 use Rattle.reader.specs.Complete.{CompleteRecording, BeginsUnswapped}
 use Rattle.reader.proofs.Ends.{strict-passed, strict-ends}
 use Rattle.reader.proofs.Folding.{holding, opened-fed}
@@ -92,13 +92,13 @@ module _ (kind : ℕ) (opening : Step) (opens : Opens kind opening) (known : isK
     {packets entries : List ℕ} {last : Reader} (fed : Fed (opening .reader) pieces n packets entries last) where
   -- A strict end that succeeds says that all that the recording announces has come. However a fresh reader was given its pieces, and whatever
   -- it has refused in between: if a strict end is then answered, all that was taken and came out is a complete recording, every read of it.
-  pub strict-end-is-complete : {step : Step} {m : ℕ} → StrictCall last step → demuxedSays (step .answer) ≡ answers m
-      → CompleteRecording kind (joined pieces) n packets entries
-  strict-end-is-complete {step} {m} call said =
+  pub strict-end-is-complete : {out out′ counts counts′ : List ℕ} {step : Step} {m : ℕ} → EndCall last strict out out′ counts counts′ step
+      → demuxedSays (step .answer) ≡ answers m → CompleteRecording kind (joined pieces) n packets entries
+  strict-end-is-complete {m = m} call said =
       let f = joined pieces in
       let v = opened-fed kind opening opens known fed in
       let s = holding (opened kind) f in
-      strict-passed 0 (startOf kind) (length f) (owed s) m (sym (call s (v .reader-is) (v .sound) .answer-is) ∙ said)
+      strict-passed 0 (startOf kind) (length f) (owed s) m (sym (call s (v .reader-is) (v .sound) .steps .answer-is) ∙ said)
       (λ none ended. absurd (omega (arith, ended)))
       (λ none full whole nothing.
       let all : n ≡ announcedIn f (startOf kind) (blocksIn kind f) =
@@ -122,7 +122,7 @@ module _ (kind : ℕ) (opening : Step) (opens : Opens kind opening) (known : isK
   pub complete-is-ended : startOf kind ≤ length (joined pieces)
       → length (joined pieces) ≡ startOf kind + 512 * blocksIn kind (joined pieces)
       → ((k : ℕ) → k < announcedIn (joined pieces) (startOf kind) (blocksIn kind (joined pieces)) → CompleteAt (readingBy kind (joined pieces)) k)
-      → {step : Step} → StrictCall last step → demuxedSays (step .answer) ≡ answers 0
+      → {out out′ counts counts′ : List ℕ} {step : Step} → EndCall last strict out out′ counts counts′ step → demuxedSays (step .answer) ≡ answers 0
   complete-is-ended full whole all call =
       let f = joined pieces in
       let a = startOf kind in
@@ -130,6 +130,6 @@ module _ (kind : ℕ) (opening : Step) (opens : Opens kind opening) (known : isK
       let s = holding (opened kind) f in
       let header : headerFull a (length f) ≡ true =
       by-test (eqb (length f) 0) (λ none. simp none) (λ some. simp (some, le-leb a (length f) full)) in
-      call s (v .reader-is) (v .sound) .answer-is
+      call s (v .reader-is) (v .sound) .steps .answer-is
       ∙ strict-ends 0 a (length f) (owed s) (λ e. omega (arith, e)) (λ e. omega (arith, e)) header (length f - a) refl
       (omega (arith, whole)) (omega (arith, all-ready f a (blocksIn kind f) (isDss kind) all))

@@ -18,8 +18,8 @@ use Rattle.hold.proofs.Ready.{total-is, ready-within}
 use Rattle.reader.specs.declared.Reader.{Reader}
 use Rattle.reader.specs.declared.Step.{Step}
 use Rattle.reader.specs.State.{State, isKind, isDss, startOf, blocksIn, readingBy, owed, Reached}
-use Rattle.reader.specs.Calls.{lenientSaid, Opens}
-use Rattle.reader.specs.History.{LenientCall, OwedCall, packetsFrom, countsFrom, joined, Fed, Drained}
+use Rattle.reader.specs.Calls.{lenientBy, lenient, endSaid, Opens}
+use Rattle.reader.specs.History.{EndCall, OwedCall, packetsFrom, countsFrom, joined, Fed, Drained}
 use Rattle.reader.specs.Agreement.{wholeReading, Agrees}
 use Rattle.reader.proofs.Parts.{part-first}
 use Rattle.reader.proofs.Laws.{at-state, lenient-many, header-full, owed-in-header}
@@ -52,7 +52,7 @@ module _ (kind : ℕ) (opening : Step) (opens : Opens kind opening) (known : isK
 
 -- What is owed is what a lenient end with room for all of it hands out, unless it is refused.
 pub owed-is-handed : {reader : Reader} {m : ℕ} {out out′ counts counts′ : List ℕ} {step : Step} → Reached reader → OwedCall reader m
-    → LenientCall reader out out′ counts counts′ step → m ≤ roomIn out counts → ((why : Refusal) → demuxedSays (step .answer) ≡ refusal why → ⊥)
+    → EndCall reader lenient out out′ counts counts′ step → m ≤ roomIn out counts → ((why : Refusal) → demuxedSays (step .answer) ≡ refusal why → ⊥)
     → demuxedSays (step .answer) ≡ answers m
 owed-is-handed {m = m} {step = step} known owes call room not-refused =
     by-said (demuxedSays (step .answer))
@@ -67,8 +67,8 @@ pub owed-before-header : (s : State) → length (s .bytes) < startOf (s .kind) �
 owed-before-header s short = owed-in-header s (omega arith)
 
 -- So a lenient end is answered wherever something is owed: with as many packets as are owed and have room.
-pub owed-is-answered : (s : State) (room : ℕ) → 0 < owed s → lenientSaid s room ≡ answers (min room (owed s))
-unfolding lenientSaid
+pub owed-is-answered : (s : State) (room : ℕ) → 0 < owed s → endSaid s lenient room ≡ answers (min room (owed s))
+unfolding lenientBy
 owed-is-answered s room some =
     let a = startOf (s .kind) in
     let long = length (s .bytes) in

@@ -1,17 +1,18 @@
--- The lenient end of a reader: what is owed comes out of the hold, as far as there is room, and the state that is left.
+-- The end of a reader: as much of what is owed comes out of the hold as it says, and the state that is left.
 -- Assumes nothing.
-use Prim.Native.Nat.{ℕ, _+_, _*_, _-_, _≤_, _<_, min}
+use Prim.Native.Nat.{ℕ, _+_, _*_, _-_, _≤_, _<_}
 use mathlib.Core.Path.{_≡_, refl, sym, ap, _∙_, subst}
 use mathlib.Core.List.{List}
 use mathlib.Core.Bool.{Bool, true, false, cond}
 use native.Mathlib.Omega.{arith}
-use borrow.Author.Tests.{leb-true, leb-false, eqb-true, eqb-false}
+use borrow.Author.Tests.{leb-true, eqb-true, eqb-false}
 use lib.ListN.{length}
 use lib.Dec.{eqb}
-use Rattle.tables.proofs.Cases.{by-order, by-test, either-most, never}
+use Rattle.tables.proofs.Cases.{by-order, by-test, either-most}
 use Rattle.tables.proofs.Lent.{leaves-none, leaves-over}
 use Rattle.blocks.specs.Places.{Whole, wholeBlocks}
-use Rattle.refusals.specs.Said.{answers, demand}
+use Rattle.refusals.specs.Said.{Said, answers}
+use Rattle.refusals.proofs.Said.{by-said}
 use Rattle.sp.specs.declared.Demuxed.{Demuxed}
 use Rattle.sp.specs.Readings.{Reading, carryAt}
 use Rattle.sp.specs.Outcome.{roomIn, demuxedSays}
@@ -20,12 +21,12 @@ use Rattle.hold.specs.Held.{baseAt, fits}
 use Rattle.hold.specs.Inner.{PartWritten, Owing}
 use Rattle.hold.proofs.Front.{fits-each}
 use Rattle.hold.proofs.Longer.{base-grows-in}
+use Rattle.pieces.specs.Inner.{accepts}
 use Rattle.reader.specs.declared.Reader.{Reader}
-use Rattle.reader.specs.State.{State, isDss, startOf, blocksIn, readingBy, handed, owed, readerOf, headerFull, headerDone, Sound, Reached}
-use Rattle.reader.specs.Calls.{lenientSaid, afterLenient, EndsLeniently}
+use Rattle.reader.specs.State.{State, isDss, startOf, blocksIn, readingBy, handed, owed, readerOf, headerDone, Sound, Reached}
+use Rattle.reader.specs.Calls.{endBy, endSaid, afterEnd, handedBy, Ends}
 use Rattle.reader.proofs.Opened.{standingOf}
-use Rattle.reader.proofs.Laws.{owed-in-header}
-use Rattle.reader.proofs.Ends.{owed-is}
+use Rattle.reader.proofs.Ends.{owed-is, end-within}
 
 -- of blocks that were added one after another none lies past the hold's end
 held-within : (dss : Bool) (f : List ℕ) (a n : ℕ) → (0 < n → Whole f a n) → fits dss f a n ≡ true → 506 * n ≤ baseAt dss f a n + 12288
@@ -48,11 +49,6 @@ none-came {reading} {k} {carry} {out} {out′} {counts} {counts′} some none w 
       v .carry-is ∙ ap (carryAt reading) same,
     )
 
--- a header that is cut is not reached
-header-cut : (a long : ℕ) → headerFull a long ≡ false → long < a
-header-cut a long cut =
-    by-test (eqb long 0) (λ e. absurd (never (simp e) cut)) (λ e. leb-false a long (simp e at cut))
-
 -- a reader that has handed out so many more
 abbrev pub drainedBy : ℕ → ℕ → ℕ → Reader → Reader
 drainedBy some carry phase r =
@@ -72,7 +68,7 @@ drainedBy some carry phase r =
     }
 
 -- its state is sound: it drains, or has ended when nothing more is owed
-pub drained-sound : (s : State) (some : ℕ) → Sound s → some ≤ owed s → headerDone s ≡ true → Sound (afterLenient s (answers some))
+pub drained-sound : (s : State) (some : ℕ) → Sound s → some ≤ owed s → headerDone s ≡ true → Sound (afterEnd s (answers some))
 drained-sound s some sound few full =
     record {
       kind-is = sound .kind-is;
@@ -101,17 +97,30 @@ HandsOut r n some out out′ counts counts′ carry =
     → PartWritten (readingIn (isDss (r .kind)) (g .f) (g .a) n) (ready (isDss (r .kind)) (g .f) (g .a) n + r .drained) some 0 out out′ counts
     counts′ carry
 
--- a lenient end counts the blocks, and hands out as many of the packets owed as there is room for
-pub record Wants (r : Reader) (n some : ℕ) (out counts : List ℕ) : Type 0 where
+-- an end counts the blocks, says what it says by its choice, and hands out as many packets as that is
+pub record Wants (r : Reader) (choice n some : ℕ) (answer : Demuxed) (out counts : List ℕ) : Type 0 where
   pub blocks-are : n ≡ wholeBlocks (r .taken) (startOf (r .kind))
-  pub some-are : some ≡ min (roomIn out counts) (r .announced - r .ready - r .drained)
+  pub answer-is : demuxedSays answer
+      ≡ endBy choice (r .phase) (startOf (r .kind)) (r .taken) (r .announced - r .ready - r .drained) (roomIn out counts)
+  pub some-are : some ≡ handedBy (demuxedSays answer)
 
-module _ {s : State} {r : Reader} (is : r ≡ readerOf s) (sound : Sound s) {n some : ℕ} {out counts : List ℕ} (w : Wants r n some out counts) where
+module _ {s : State} {r : Reader} (is : r ≡ readerOf s) (sound : Sound s) {choice n some : ℕ} {answer : Demuxed} {out counts : List ℕ}
+    (w : Wants r choice n some answer out counts) where
   many : n ≡ blocksIn (s .kind) (s .bytes)
   many = w .blocks-are ∙ ap (λ (r : Reader). wholeBlocks (r .taken) (startOf (r .kind))) is
 
-  some-is : some ≡ min (roomIn out counts) (owed s)
-  some-is = w .some-are ∙ ap (min (roomIn out counts)) (owed-is s r is)
+  says : demuxedSays answer ≡ endSaid s choice (roomIn out counts)
+  says = w .answer-is ∙ cc (is, owed-is s r is)
+
+  -- so many come, if it is answered, and none if it is refused
+  some-by : {said : Said ℕ} → endSaid s choice (roomIn out counts) ≡ said → some ≡ handedBy said
+  some-by e = w .some-are ∙ ap handedBy (says ∙ e)
+
+  within : (some ≤ roomIn out counts) × (some ≤ owed s)
+  within =
+      by-said (endSaid s choice (roomIn out counts))
+      (λ n e. let few = end-within sound choice (roomIn out counts) e in (omega (arith, some-by e, few .0), omega (arith, some-by e, few .1)))
+      (λ why e. (omega (arith, some-by e), omega (arith, some-by e)))
 
   -- so much is owed of the bytes joined
   at-state : OwingOf (readerOf s) (blocksIn (s .kind) (s .bytes)) some out counts
@@ -125,9 +134,9 @@ module _ {s : State} {r : Reader} (is : r ≡ readerOf s) (sound : Sound s) {n s
         within = held-within _ _ _ _ (λ some. omega arith) (sound .fit);
         waiting-is = refl;
         numbers-are = refl;
-        owed = omega (arith, some-is, sound .among);
-        out-room = omega (arith, some-is);
-        counts-room = omega (arith, some-is);
+        owed = omega (arith, within .1, sound .among);
+        out-room = omega (arith, within .0);
+        counts-room = omega (arith, within .0);
       }
 
   -- what was handed out is what comes next of its reading
@@ -138,61 +147,52 @@ module _ {s : State} {r : Reader} (is : r ≡ readerOf s) (sound : Sound s) {n s
       subst (λ (n : ℕ). HandsOut (readerOf s) n some out out′ counts counts′ carry) many
       (subst (λ (r : Reader). HandsOut r n some out out′ counts counts′ carry) is law) at-state
 
-  -- what is said, by whether the header is full
-  said-by : {full : Bool} → headerDone s ≡ full → lenientSaid s (roomIn out counts) ≡ demand full 3 (startOf (s .kind)) (answers some)
-  unfolding lenientSaid
-  said-by e = rw (e, some-is)
-
-  pub lenient-steps : {a carry phase : ℕ} {done : Bool} {answer : Demuxed} {out′ counts′ : List ℕ} → a ≡ startOf (r .kind)
-      → HandsOut r n some out out′ counts counts′ carry → done ≡ headerFull a (r .taken)
-      → phase ≡ cond done (cond (eqb some (r .announced - r .ready - r .drained)) 2 1) (r .phase)
-      → demuxedSays answer ≡ demand done 3 a (answers some)
-      → EndsLeniently s out out′ counts counts′ (record { answer = answer; reader = drainedBy some carry phase r })
-  lenient-steps {a} {carry} {phase} {done} {answer} {out′} {counts′} a-is law done-is phase-is answer-is =
-      by-test (headerDone s)
-      (λ full.
+  pub end-steps : {carry phase : ℕ} {accepted : Bool} {out′ counts′ : List ℕ} → HandsOut r n some out out′ counts counts′ carry
+      → accepted ≡ accepts (demuxedSays answer)
+      → phase ≡ cond accepted (cond (eqb some (r .announced - r .ready - r .drained)) 2 1) (r .phase)
+      → Ends s choice out out′ counts counts′ (record { answer = answer; reader = drainedBy some carry phase r })
+  end-steps {carry} {phase} {accepted} {out′} {counts′} law accepted-is phase-is =
+      by-said (endSaid s choice (roomIn out counts))
+      (λ n e.
+      let said : endSaid s choice (roomIn out counts) ≡ answers some = e ∙ ap answers (sym (some-by e)) in
       record {
         steps =
-            rw (said-by full)
+            rw said
             (record {
-              answer-is = answer-by full;
-              reader-is = cc (is, phase-by full, carry-on);
-              sound = drained-sound s some sound (omega (arith, some-is)) full;
+              answer-is = says ∙ said;
+              reader-is = cc (is, phase-by said, carry-on);
+              sound = drained-sound s some sound (within .1) (end-within sound choice (roomIn out counts) e .2);
             });
-        hands = rw (said-by full) (record { out-is = leaves-over (written .packets-are); counts-are = leaves-over (written .counts-are) });
+        hands = rw said (record { out-is = leaves-over (written .packets-are); counts-are = leaves-over (written .counts-are) });
       })
-      (λ cut.
-      let short = header-cut (startOf (s .kind)) (length (s .bytes)) cut in
-      let none : some ≡ 0 = omega (arith, some-is, owed-in-header s (omega (arith, short))) in
-      let kept = none-came some none written in
-      let still : s .drained + some ≡ s .drained = omega arith in
+      (λ why e.
+      let kept = none-came some (some-by e) written in
+      let still : s .drained + some ≡ s .drained = omega (arith, some-by e) in
       record {
-        steps = rw (said-by cut) (record { answer-is = answer-by cut; reader-is = cc (is, phase-by cut, kept .2, still); sound = sound });
-        hands = rw (said-by cut) (record { out-is = kept .0; counts-are = kept .1 });
+        steps = rw e (record { answer-is = says ∙ e; reader-is = cc (is, phase-by e, kept .2, still); sound = sound });
+        hands = rw e (record { out-is = kept .0; counts-are = kept .1 });
       })
     where
       written : PartWritten (readingBy (s .kind) (s .bytes)) (handed s) some 0 out out′ counts counts′ carry
       written = handed-out law
 
-      carry-on : carry ≡ carryAt (readingBy (s .kind) (s .bytes)) (handed (afterLenient s (answers some)))
+      carry-on : carry ≡ carryAt (readingBy (s .kind) (s .bytes)) (handed (afterEnd s (answers some)))
       carry-on =
-          let on : handed s + some ≡ handed (afterLenient s (answers some)) = omega arith in
+          let on : handed s + some ≡ handed (afterEnd s (answers some)) = omega arith in
           written .carry-is ∙ ap (carryAt (readingBy (s .kind) (s .bytes))) on
 
-      begin : a ≡ startOf (s .kind)
-      begin = a-is ∙ ap (λ (r : Reader). startOf (r .kind)) is
-
-      done-now : done ≡ headerDone s
-      done-now = rw (begin, is) at done-is
-
-      answer-by : {full : Bool} → headerDone s ≡ full → demuxedSays answer ≡ demand full 3 (startOf (s .kind)) (answers some)
-      answer-by e = rw (done-now, e, begin) at answer-is
-
-      phase-by : {full : Bool} → headerDone s ≡ full → phase ≡ cond full (cond (eqb some (owed s)) 2 1) (s .phase)
-      phase-by e = rw (done-now, e, owed-is s r is, is) at phase-is
+      phase-by : {said : Said ℕ} → endSaid s choice (roomIn out counts) ≡ said
+          → phase ≡ cond (accepts said) (cond (eqb some (owed s)) 2 1) (s .phase)
+      phase-by e = rw (accepted-is ∙ ap accepts (says ∙ e), owed-is s r is, is) at phase-is
 
 -- so a reader that a call gave back may hand out what is wanted
-pub owing : {r : Reader} {n some : ℕ} {out counts : List ℕ} → Reached r → Wants r n some out counts → OwingOf r n some out counts
+pub owing : {r : Reader} {choice n some : ℕ} {answer : Demuxed} {out counts : List ℕ} → Reached r → Wants r choice n some answer out counts
+    → OwingOf r n some out counts
 owing {n = n} {some = some} {out = out} {counts = counts} v w =
     subst (λ (r : Reader). OwingOf r n some out counts) (sym (v .is))
     (subst (λ (m : ℕ). OwingOf (readerOf (v .state)) m some out counts) (sym (many (v .is) (v .sound) w)) (at-state (v .is) (v .sound) w))
+
+-- and hands out no more than it owes
+pub end-most : {r : Reader} {choice n some : ℕ} {answer : Demuxed} {out counts : List ℕ} → Reached r → Wants r choice n some answer out counts
+    → some ≤ r .announced - r .ready - r .drained
+end-most {r} v w = omega (arith, within (v .is) (v .sound) w .1, owed-is (v .state) r (v .is))

@@ -1,21 +1,19 @@
--- The ends of a reader: what the strict end says, step by step, and the state that it leaves; what is owed.
+-- The ends of a reader: what the strict end says, step by step; what an end says by which of the two is meant; what is owed.
 -- Assumes nothing.
-use Prim.Native.Nat.{ℕ, _+_, _-_, _%_, _≤_}
+use Prim.Native.Nat.{ℕ, _+_, _-_, _%_, _≤_, min}
 use mathlib.Core.Path.{_≡_, sym, _∙_, subst}
-use mathlib.Core.Bool.{Bool, true, false, not, cond}
+use mathlib.Core.Bool.{true, false, not, cond}
 use native.Mathlib.Omega.{arith}
 use borrow.Author.Tests.{eq-eqb, ne-eqb, eqb-true}
+use lib.ListN.{length}
 use lib.Dec.{eqb}
-use Rattle.tables.proofs.Cases.{by-test}
+use Rattle.tables.proofs.Cases.{by-test, by-equal}
 use Rattle.blocks.specs.Places.{limit}
-use Rattle.refusals.specs.Said.{Said, answers, refusal, refuses, demand}
-use Rattle.refusals.proofs.Said.{passed, by-said}
-use Rattle.sp.specs.declared.Demuxed.{Demuxed}
-use Rattle.sp.specs.Outcome.{demuxedSays}
+use Rattle.refusals.specs.Said.{Said, answers, refuses, demand}
+use Rattle.refusals.proofs.Said.{not-both, passed}
 use Rattle.reader.specs.declared.Reader.{Reader}
-use Rattle.reader.specs.State.{State, isKind, startOf, owed, readerOf, headerFull, Sound, Reached}
-use Rattle.reader.specs.Calls.{inBlock, strictBy, strictSaid, afterStrict, Steps, EndsStrictly}
-use Rattle.pieces.specs.Inner.{accepts}
+use Rattle.reader.specs.State.{State, isKind, startOf, owed, readerOf, headerFull, headerDone, Sound, Reached}
+use Rattle.reader.specs.Calls.{inBlock, strictBy, lenientBy, strict, lenient, endBy, endSaid}
 
 -- no more packets are handed out than are announced
 pub reached-among : {r : Reader} → Reached r → r .ready + r .drained ≤ r .announced
@@ -83,55 +81,57 @@ strict-passed phase a long owed n said ended ends =
     header : Said ℕ
     header = demand (headerFull a long) 3 a inside
 
--- a reader in another phase
-abbrev pub inPhase : ℕ → Reader → Reader
-inPhase phase r =
-    record {
-      kind = r .kind;
-      phase = phase;
-      taken = r .taken;
-      announced = r .announced;
-      ready = r .ready;
-      drained = r .drained;
-      base = r .base;
-      first = r .first;
-      carry = r .carry;
-      hold = r .hold;
-      partial = r .partial;
-      waiting = r .waiting;
-    }
+-- what the lenient end says
+module _ (a long owed room : ℕ) where
+  pub lenient-cut : headerFull a long ≡ false → lenientBy a long owed room ≡ refuses 3 a
+  unfolding lenientBy
+  lenient-cut cut = simp cut
 
-pub ended-sound : (s : State) (n : ℕ) → Sound s → strictSaid s ≡ answers n → Sound (afterStrict s (answers n))
-ended-sound s n sound said =
-    record {
-      kind-is = sound .kind-is;
-      bytes-are = sound .bytes-are;
-      small = sound .small;
-      fit = sound .fit;
-      among = sound .among;
-      taking = λ e. absurd (omega arith);
-      draining = λ e. absurd (omega arith);
-      ended = λ e. strict-passed (s .phase) _ _ (owed s) n said (λ none. sound .ended) (λ none full whole owes. owes);
-      header = λ h. strict-passed (s .phase) _ _ (owed s) n said (λ none e. sound .header (λ z. omega arith)) (λ none full whole owes. full);
-      phases = omega arith;
-    }
+  pub lenient-ends : headerFull a long ≡ true → lenientBy a long owed room ≡ answers (min room owed)
+  unfolding lenientBy
+  lenient-ends full = simp full
 
-pub strict-steps : (s : State) (r : Reader) (a phase : ℕ) (accepted : Bool) (answer : Demuxed) → r ≡ readerOf s → Sound s → a ≡ startOf (r .kind)
-    → (demuxedSays answer ≡ strictBy (r .phase) a (r .taken) (r .announced - r .ready - r .drained)) × (accepted ≡ accepts (demuxedSays answer))
-    → phase ≡ cond accepted 2 (r .phase) → EndsStrictly s (record { answer = answer; reader = inPhase phase r })
-strict-steps s r a phase accepted answer is sound start verdict phase-is =
-    by-said (strictSaid s)
-    (λ n e. settled (answers n) e (in-phase e) (ended-sound s n sound e))
-    (λ why e. settled (refusal why) e (in-phase e) sound)
-  where
-    said : demuxedSays answer ≡ strictSaid s
-    said = verdict .0 ∙ cc (is, start, owed-is s r is)
+-- which of the two ends is meant, if either
+pub by-choice : {X : Type 0} (choice : ℕ) → (choice ≡ strict → X) → (choice ≡ lenient → X)
+    → ((choice ≡ strict → ⊥) → (choice ≡ lenient → ⊥) → X) → X
+by-choice choice strictly leniently neither =
+    by-equal choice strict strictly (λ not-strict. by-equal choice lenient leniently (λ not-lenient. neither not-strict not-lenient))
 
-    in-phase : {to : Said ℕ} → strictSaid s ≡ to → inPhase phase r ≡ inPhase (cond (accepts to) 2 (s .phase)) (readerOf s)
-    in-phase e = cc (is, phase-is, verdict .1, said, e)
+-- what an end says, by that
+module _ (choice phase a long owed room : ℕ) where
+  pub chosen-strict : choice ≡ strict → endBy choice phase a long owed room ≡ strictBy phase a long owed
+  chosen-strict is = simp (eq-eqb choice strict is)
 
-    settled : (to : Said ℕ) → strictSaid s ≡ to → inPhase phase r ≡ readerOf (afterStrict s to) → Sound (afterStrict s to)
-        → EndsStrictly s (record { answer = answer; reader = inPhase phase r })
-    settled to e reader-is is-sound =
-        subst (λ (to : Said ℕ). Steps to (afterStrict s to) (record { answer = answer; reader = inPhase phase r })) (sym e)
-        (record { answer-is = said ∙ e; reader-is = reader-is; sound = is-sound })
+  pub chosen-lenient : choice ≡ lenient → endBy choice phase a long owed room ≡ lenientBy a long owed room
+  chosen-lenient is = simp (ne-eqb choice strict (λ e. omega arith), eq-eqb choice lenient is)
+
+  pub chosen-neither : (choice ≡ strict → ⊥) → (choice ≡ lenient → ⊥) → endBy choice phase a long owed room ≡ refuses 22 0
+  chosen-neither not-strict not-lenient = simp (ne-eqb choice strict not-strict, ne-eqb choice lenient not-lenient)
+
+  -- and by that, what is known of one that was not refused
+  pub end-passed : {X : Type 0} {n : ℕ} → endBy choice phase a long owed room ≡ answers n
+      → (choice ≡ strict → strictBy phase a long owed ≡ answers n → X)
+      → (choice ≡ lenient → headerFull a long ≡ true → min room owed ≡ n → X) → X
+  unfolding lenientBy
+  end-passed said strictly leniently =
+      by-choice choice (λ is. strictly is (sym (chosen-strict is) ∙ said))
+      (λ is.
+      let full = passed (headerFull a long) 3 a (answers (min room owed)) (sym (chosen-lenient is) ∙ said) in
+      leniently is (full .0) (cc (full .1)))
+      (λ not-strict not-lenient. absurd (not-both (sym (chosen-neither not-strict not-lenient) ∙ said)))
+
+module _ {s : State} (sound : Sound s) where
+  -- an end that is answered hands out no more packets than there is room for, and than are owed, of a recording with a full header
+  pub end-within : (choice room : ℕ) {n : ℕ} → endSaid s choice room ≡ answers n → (n ≤ room) × (n ≤ owed s) × (headerDone s ≡ true)
+  end-within choice room {n} said =
+      end-passed choice (s .phase) (startOf (s .kind)) (length (s .bytes)) (owed s) room said
+      (λ is e.
+      strict-passed (s .phase) _ _ (owed s) n e
+      (λ none ended. (omega arith, omega arith, sound .header (λ z. omega arith)))
+      (λ none full whole owes. (omega arith, omega arith, full)))
+      (λ is full many. (omega arith, omega arith, full))
+
+  -- a strict one none, and none is owed
+  pub strict-none : (room : ℕ) {n : ℕ} → endSaid s strict room ≡ answers n → (n ≡ 0) × (owed s ≡ 0)
+  strict-none room {n} said =
+      strict-passed (s .phase) _ _ (owed s) n said (λ none ended. (none, sound .ended ended)) (λ none full whole owes. (none, owes))

@@ -1,10 +1,11 @@
--- Calls one after another: what the pieces that were accepted brought out together, and what lenient ends did.
+-- Calls one after another: what the pieces that were accepted brought out together, and what ends did.
 -- Assumes nothing.
 use Prim.Native.Nat.{ℕ, _+_, _*_, _≤_}
-use mathlib.Core.Path.{_≡_, sym, _∙_, subst}
+use mathlib.Core.Path.{_≡_, sym, ap, ap₂, _∙_, subst}
 use mathlib.Core.List.{List, [], _++_, append-assoc, append-nil}
 use mathlib.Core.Bool.{true, cond}
 use native.Mathlib.Omega.{arith}
+use borrow.Author.Tests.{eq-eqb}
 use lib.ListN.{length, take}
 use lib.Dec.{eqb}
 use Rattle.tables.specs.Table.{Each}
@@ -13,10 +14,11 @@ use Rattle.sp.specs.Outcome.{roomIn, demuxedSays}
 use Rattle.reader.specs.declared.Reader.{Reader}
 use Rattle.reader.specs.declared.Step.{Step}
 use Rattle.reader.specs.State.{State, isKind, opened, readingBy, readyBy, handed, owed, readerOf, Sound}
-use Rattle.reader.specs.Calls.{openSaid, afterOpen, afterPiece, afterStrict, afterLenient, Opens}
-use Rattle.reader.specs.History.{PieceCall, LenientCall, joined, Refuses, a-piece, a-strict-end, a-lenient-end, Fed, Drained, none, more, strictly, refused}
+use Rattle.reader.specs.Calls.{openSaid, afterOpen, afterPiece, strict, endSaid, afterEnd, Opens}
+use Rattle.reader.specs.History.{PieceCall, EndCall, joined, Refuses, a-piece, an-end, Fed, Drained, none, more, strictly, refused}
 use Rattle.reader.proofs.Parts.{Part, part-none, part-joined, ready-in-header, ready-more, part-stays}
 use Rattle.reader.proofs.Laws.{steps-by, hands-by, part-written, piece-accepted, lenient-many}
+use Rattle.reader.proofs.Ends.{end-within, strict-none}
 
 -- a state with other bytes
 abbrev pub holding : State → List ℕ → State
@@ -26,9 +28,7 @@ holding s f = record { kind = s .kind; bytes = f; drained = s .drained; phase = 
 pub kept-by : {reader next : Reader} → Refuses reader next → (s : State) → reader ≡ readerOf s → Sound s → next ≡ readerOf s
 kept-by (a-piece piece out out′ counts counts′ step why call said) s e sound =
     steps-by (afterPiece s piece) said (call s e sound .steps) .reader-is
-kept-by (a-strict-end step why call said) s e sound = steps-by (afterStrict s) said (call s e sound) .reader-is
-kept-by (a-lenient-end out out′ counts counts′ step why call said) s e sound =
-    steps-by (afterLenient s) said (call s e sound .steps) .reader-is
+kept-by (an-end choice out out′ counts counts′ step why call said) s e sound = steps-by (afterEnd s) said (call s e sound .steps) .reader-is
 
 -- from a state a reader came to hold the bytes f, and n packets came out
 pub record Took (s : State) (f : List ℕ) (n : ℕ) (packets entries : List ℕ) (last : Reader) : Type 0 where
@@ -106,7 +106,7 @@ opened-fed kind opening opens known {pieces = pieces} {n = n} {packets = packets
 abbrev pub lighter : State → ℕ → ℕ → State
 lighter s drained phase = record { kind = s .kind; bytes = s .bytes; drained = drained; phase = phase }
 
--- from a state a reader was ended leniently, perhaps again and again, and n packets came out
+-- from a state a reader was ended, perhaps again and again, and n packets came out
 pub record Drew (s : State) (n : ℕ) (packets entries : List ℕ) (last : Reader) : Type 0 where
   pub drained : ℕ
   pub phase : ℕ
@@ -123,22 +123,37 @@ owing {s} v = owed (lighter s (v .drained) (v .phase))
 pub drew-owed : {s : State} {n : ℕ} {packets entries : List ℕ} {last : Reader} (v : Drew s n packets entries last) → n + owing v ≡ owed s
 drew-owed v = omega (arith, v .many, v .sound .among)
 
--- one lenient end
-drew-one : {reader : Reader} {out out′ counts counts′ : List ℕ} {step : Step} {n : ℕ} (s : State) → reader ≡ readerOf s → Sound s
-    → LenientCall reader out out′ counts counts′ step → demuxedSays (step .answer) ≡ answers n
+-- one end
+drew-one : {reader : Reader} {choice : ℕ} {out out′ counts counts′ : List ℕ} {step : Step} {n : ℕ} (s : State) → reader ≡ readerOf s → Sound s
+    → EndCall reader choice out out′ counts counts′ step → demuxedSays (step .answer) ≡ answers n
     → Drew s n (take (42 * n) out′) (take n counts′) (step .reader)
-drew-one {out = out} {counts = counts} {n = n} s e sound call said =
+drew-one {choice = choice} {out = out} {counts = counts} {n = n} s e sound call said =
     let v = call s e sound in
-    let many = lenient-many s e sound call said in
-    let next = steps-by (afterLenient s) said (v .steps) in
+    let next = steps-by (afterEnd s) said (v .steps) in
     record {
       drained = s .drained + n;
       phase = cond (eqb n (owed s)) 2 1;
       reader-is = next .reader-is;
       sound = next .sound;
       many = omega arith;
-      part = part-written (hands-by said (v .steps) (v .hands)) (omega (arith, many));
+      part = part-written (hands-by said (v .steps) (v .hands)) (end-within sound choice (roomIn out counts) (sym (v .steps .answer-is) ∙ said) .0);
     }
+
+-- a strict one has ended the reader, and nothing else is changed
+pub after-strict : (s : State) (room n : ℕ) → Sound s → endSaid s strict room ≡ answers n → afterEnd s (answers n) ≡ lighter s (s .drained) 2
+after-strict s room n sound said =
+    let none = strict-none sound room said in
+    let many : s .drained + n ≡ s .drained = omega (arith, none .0) in
+    ap₂ (lighter s) many (simp (eq-eqb n (owed s) (none .0 ∙ sym (none .1))))
+
+ended-by : {reader : Reader} {out out′ counts counts′ : List ℕ} {step : Step} {n : ℕ} (s : State) → reader ≡ readerOf s → Sound s
+    → EndCall reader strict out out′ counts counts′ step → demuxedSays (step .answer) ≡ answers n
+    → (step .reader ≡ readerOf (lighter s (s .drained) 2)) × Sound (lighter s (s .drained) 2)
+ended-by {out = out} {counts = counts} {n = n} s e sound call said =
+    let v = call s e sound .steps in
+    let next = steps-by (afterEnd s) said v in
+    let ended = after-strict s (roomIn out counts) n sound (sym (v .answer-is) ∙ said) in
+    (next .reader-is ∙ ap readerOf ended, subst Sound ended (next .sound))
 
 -- and others after it
 drew-more : {s : State} {n m : ℕ} {packets entries packets′ entries′ : List ℕ} {reader last : Reader} (v : Drew s n packets entries reader)
@@ -169,9 +184,9 @@ drained-is none s e sound =
 drained-is (more out out′ counts counts′ step room call said after) s e sound =
     let v = drew-one s e sound call said in
     drew-more v (drained-is after (lighter s (v .drained) (v .phase)) (v .reader-is) (v .sound))
-drained-is (strictly step call said after) s e sound =
-    let next = steps-by (afterStrict s) said (call s e sound) in
-    let v = drained-is after (lighter s (s .drained) 2) (next .reader-is) (next .sound) in
+drained-is (strictly out out′ counts counts′ step call said after) s e sound =
+    let next = ended-by s e sound call said in
+    let v = drained-is after (lighter s (s .drained) 2) (next .0) (next .1) in
     record { drained = v .drained; phase = v .phase; reader-is = v .reader-is; sound = v .sound; many = v .many; part = v .part }
 drained-is (refused call after) s e sound = drained-is after s (kept-by call s e sound) sound
 
@@ -186,7 +201,7 @@ all-drawn (more out out′ counts counts′ step room call said after) s e sound
     let left = drew-owed v in
     let rest = all-drawn after (lighter s (v .drained) (v .phase)) (v .reader-is) (v .sound) (roomy .1) (omega (arith, many, left, room, roomy .0)) in
     omega (arith, left, rest)
-all-drawn (strictly step call said after) s e sound roomy enough =
-    let next = steps-by (afterStrict s) said (call s e sound) in
-    all-drawn after (lighter s (s .drained) 2) (next .reader-is) (next .sound) roomy enough
+all-drawn (strictly out out′ counts counts′ step call said after) s e sound roomy enough =
+    let next = ended-by s e sound call said in
+    all-drawn after (lighter s (s .drained) 2) (next .0) (next .1) roomy enough
 all-drawn (refused call after) s e sound roomy enough = all-drawn after s (kept-by call s e sound) sound roomy enough

@@ -24,8 +24,8 @@ use Rattle.sp.proofs.Outcome.{demuxed-back}
 use Rattle.reader.specs.declared.Reader.{Reader}
 use Rattle.reader.specs.declared.Step.{Step}
 use Rattle.reader.specs.State.{State, startOf, blocksIn, fitsBy, owed, readerOf, headerFull, headerDone, Sound, Reached}
-use Rattle.reader.specs.Calls.{brings, pieceSaid, inBlock, strictBy, strictSaid, lenientSaid, Steps, Hands}
-use Rattle.reader.specs.History.{LenientCall}
+use Rattle.reader.specs.Calls.{brings, pieceSaid, inBlock, strictBy, lenientBy, strict, lenient, endSaid, Steps, Hands}
+use Rattle.reader.specs.History.{EndCall}
 use Rattle.reader.proofs.Parts.{Part, part-over}
 
 -- what a contract says of every state that a reader may stand for, said of one
@@ -93,8 +93,8 @@ piece-accepted s piece room n e =
 
 -- how many packets a lenient end answers
 pub lenient-many : {reader : Reader} {out out′ counts counts′ : List ℕ} {step : Step} {n : ℕ} (s : State) → reader ≡ readerOf s → Sound s
-    → LenientCall reader out out′ counts counts′ step → demuxedSays (step .answer) ≡ answers n → n ≡ min (roomIn out counts) (owed s)
-unfolding lenientSaid
+    → EndCall reader lenient out out′ counts counts′ step → demuxedSays (step .answer) ≡ answers n → n ≡ min (roomIn out counts) (owed s)
+unfolding lenientBy
 lenient-many {out = out} {counts = counts} s e sound call said =
     let v = call s e sound .steps in
     let full = passed (headerDone s) 3 (startOf (s .kind)) (answers (min (roomIn out counts) (owed s))) (sym (v .answer-is) ∙ said) in
@@ -135,8 +135,8 @@ owed-in-header s short =
 
 -- so an end there, at the header's last byte or before any input, is answered with no packets
 pub ends-empty : (s : State) (room : ℕ) → s .phase ≡ 0 → length (s .bytes) ≤ startOf (s .kind) → headerDone s ≡ true
-    → (strictSaid s ≡ answers 0) × (lenientSaid s room ≡ answers 0) × (owed s ≡ 0)
-unfolding strictBy lenientSaid
+    → (endSaid s strict room ≡ answers 0) × (endSaid s lenient room ≡ answers 0) × (owed s ≡ 0)
+unfolding strictBy lenientBy
 ends-empty s room taking short full =
     let nothing = owed-in-header s short in
     let whole : inBlock (startOf (s .kind)) (length (s .bytes)) ≡ 0 = omega arith in

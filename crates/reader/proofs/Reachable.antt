@@ -8,16 +8,16 @@ use native.Mathlib.Omega.{arith}
 use borrow.Author.Tests.{le-leb, eq-eqb, ne-eqb}
 use lib.ListN.{length}
 use lib.Dec.{eqb}
-use Rattle.tables.proofs.Cases.{by-equal, by-test}
+use Rattle.tables.proofs.Cases.{by-equal}
 use Rattle.blocks.specs.Places.{limit}
 use Rattle.blocks.specs.Headers.{Bytes}
 use Rattle.refusals.specs.Said.{answers}
 use Rattle.refusals.proofs.Said.{by-said}
 use Rattle.reader.specs.State.{State, opened, owed, headerDone, Sound}
-use Rattle.reader.specs.Calls.{openSaid, afterOpen, brings, pieceSaid, afterPiece, strictSaid, afterStrict, lenientSaid, afterLenient, Reachable, by-open, by-piece, by-strict, by-lenient}
+use Rattle.reader.specs.Calls.{openSaid, afterOpen, brings, pieceSaid, afterPiece, lenientBy, lenient, endSaid, afterEnd, Reachable, by-open, by-piece, by-end}
 use Rattle.reader.proofs.Opened.{opened-sound}
 use Rattle.reader.proofs.Piecing.{next-sound}
-use Rattle.reader.proofs.Ends.{ended-sound}
+use Rattle.reader.proofs.Ends.{end-within}
 use Rattle.reader.proofs.Draining.{drained-sound}
 use Rattle.reader.proofs.Folding.{holding, lighter}
 
@@ -28,22 +28,17 @@ after-piece s piece room bytes sound =
     (λ n e. rw e (next-sound s piece sound bytes room e))
     (λ why e. rw e sound)
 
-after-strict : (s : State) → Sound s → Sound (afterStrict s (strictSaid s))
-after-strict s sound = by-said (strictSaid s) (λ n e. rw e (ended-sound s n sound e)) (λ why e. rw e sound)
-
-after-lenient : (s : State) (room : ℕ) → Sound s → Sound (afterLenient s (lenientSaid s room))
-unfolding lenientSaid
-after-lenient s room sound =
-    by-test (headerDone s)
-    (λ full. rw full (drained-sound s (min room (owed s)) sound (omega arith) full))
-    (λ cut. rw cut sound)
+after-end : (s : State) (choice room : ℕ) → Sound s → Sound (afterEnd s (endSaid s choice room))
+after-end s choice room sound =
+    by-said (endSaid s choice room)
+    (λ n e. let within = end-within sound choice room e in rw e (drained-sound s n sound (within .1) (within .2)))
+    (λ why e. rw e sound)
 
 -- what open and the calls lead to is sound
 pub reachable-sound : {s : State} → Reachable s → Sound s
 reachable-sound (by-open kind) = opened-sound kind
 reachable-sound (by-piece {s} piece room bytes before) = after-piece s piece room bytes (reachable-sound before)
-reachable-sound (by-strict {s} before) = after-strict s (reachable-sound before)
-reachable-sound (by-lenient {s} room before) = after-lenient s room (reachable-sound before)
+reachable-sound (by-end {s} choice room before) = after-end s choice room (reachable-sound before)
 
 module _ (s : State) (sound : Sound s) where
   -- a fresh reader that is given all bytes at once
@@ -70,15 +65,15 @@ module _ (s : State) (sound : Sound s) where
   left : min (s .drained) (owed given) ≡ s .drained
   left = omega (arith, sound .among)
 
-  ended-said : headerDone s ≡ true → lenientSaid given (s .drained) ≡ answers (s .drained)
-  unfolding lenientSaid
+  ended-said : headerDone s ≡ true → endSaid given lenient (s .drained) ≡ answers (s .drained)
+  unfolding lenientBy
   ended-said full = simp (full, left)
 
   ended-reachable : headerDone s ≡ true → cond (eqb (s .drained) (owed given)) 2 1 ≡ s .phase → Reachable s
   ended-reachable full phase-is =
       let many : 0 + s .drained ≡ s .drained = omega arith in
-      let same : afterLenient given (answers (s .drained)) ≡ s = ap₂ (lighter s) many phase-is in
-      subst Reachable (ap (afterLenient given) (ended-said full) ∙ same) (by-lenient (s .drained) given-reachable)
+      let same : afterEnd given (answers (s .drained)) ≡ s = ap₂ (lighter s) many phase-is in
+      subst Reachable (ap (afterEnd given) (ended-said full) ∙ same) (by-end lenient (s .drained) given-reachable)
 
   -- so every sound state is led to
   pub sound-reachable : Reachable s

@@ -5,7 +5,7 @@ use mathlib.Core.Path.{_≡_, sym, ap, _∙_}
 use mathlib.Core.List.{List, _++_}
 use mathlib.Core.Bool.{true, false, not}
 use native.Mathlib.Omega.{arith}
-use borrow.Author.Tests.{le-leb, lt-leb, leb-true, leb-false, eqb-true, eqb-false}
+use borrow.Author.Tests.{le-leb, lt-leb, leb-true, leb-false, eqb-true, eqb-false, not-false}
 use lib.ListN.{length, length-append}
 use lib.Dec.{eqb, leb}
 use Rattle.tables.proofs.Cases.{by-test}
@@ -15,9 +15,10 @@ use Rattle.blocks.proofs.Headers.{announced-grows, announced-same}
 use Rattle.refusals.specs.Said.{answers, refuses}
 use Rattle.refusals.proofs.Said.{not-both, by-demand}
 use Rattle.hold.proofs.Ready.{ready-within}
-use Rattle.reader.specs.State.{State, isKind, isDss, startOf, blocksIn, fitsBy, owed, headerFull, Sound}
-use Rattle.reader.specs.Calls.{openSaid, brings, pieceSaid, strictSaid, inBlock, strictBy}
+use Rattle.reader.specs.State.{State, isKind, isDss, startOf, blocksIn, fitsBy, owed, headerFull, headerDone, Sound}
+use Rattle.reader.specs.Calls.{openSaid, brings, pieceSaid, inBlock, strictBy, lenientBy, strict, lenient, endSaid}
 use Rattle.reader.proofs.Laws.{bytes-joined}
+use Rattle.reader.proofs.Ends.{by-choice, chosen-strict, chosen-lenient, chosen-neither}
 
 module _ (s : State) (piece : List ℕ) where
   -- Where a reader takes pieces, the bytes joined are within the limit and every block fits, a piece is taken exactly if there is room for all
@@ -83,8 +84,8 @@ module _ (s : State) (piece : List ℕ) where
       let v = eight-says room n e in
       omega (arith, ample, v .3, most-brought sound bytes (v .0))
 
--- why a strict end is refused
-strict-refused-by : {X : Type 0} (phase a long owed m n : ℕ) → strictBy phase a long owed ≡ refuses m n → (6 ≡ m → X) → (3 ≡ m → X)
+-- why an end is refused
+strict-refused-by : {X : Type 0} (phase a long owed m n : ℕ) → strictBy phase a long owed ≡ refuses m n → (6 ≡ m → phase ≡ 1 → X) → (3 ≡ m → X)
     → (13 ≡ m → (inBlock a long ≡ 0 → ⊥) → inBlock a long ≡ n → X) → (14 ≡ m → (owed ≡ 0 → ⊥) → owed ≡ n → X) → X
 unfolding strictBy
 strict-refused-by phase a long owed m n e six three thirteen fourteen =
@@ -98,20 +99,68 @@ strict-refused-by phase a long owed m n e six three thirteen fourteen =
     (λ whole e. by-demand (eqb owed 0) e (λ none e. absurd (not-both (sym e))) (λ some is beside. fourteen is (eqb-false owed 0 some) beside))
     (λ cut is beside. thirteen is (eqb-false (inBlock a long) 0 cut) beside))
     (λ cut is beside. three is)))
-    (λ drains is beside. six is)
+    (λ drains is beside. six is (eqb-true phase 1 (not-false _ drains)))
 
--- The numbers beside 10, 13 and 14: the kind that there is not, how many bytes are there of a block that is not whole, and the frames owed.
+end-refused-by : {X : Type 0} (s : State) (choice room m n : ℕ) → endSaid s choice room ≡ refuses m n → (3 ≡ m → X)
+    → (choice ≡ strict → strictBy (s .phase) (startOf (s .kind)) (length (s .bytes)) (owed s) ≡ refuses m n → X)
+    → ((choice ≡ strict → ⊥) → (choice ≡ lenient → ⊥) → 22 ≡ m → 0 ≡ n → X) → X
+unfolding lenientBy
+end-refused-by s choice room m n e three strictly neither =
+    let a = startOf (s .kind) in
+    let long = length (s .bytes) in
+    by-choice choice
+    (λ is. strictly is (sym (chosen-strict choice (s .phase) a long (owed s) room is) ∙ e))
+    (λ is.
+    by-demand (headerDone s) (sym (chosen-lenient choice (s .phase) a long (owed s) room is) ∙ e) (λ full e. absurd (not-both (sym e)))
+    (λ cut is beside. three is))
+    (λ not-strict not-lenient.
+    by-demand false {rest = answers 0} (sym (chosen-neither choice (s .phase) a long (owed s) room not-strict not-lenient) ∙ e) (λ never e. absurd (not-both (sym e)))
+    (λ so is beside. neither not-strict not-lenient is beside))
+
+-- The number beside 10 is the kind that there is not.
 pub ten-tells : (kind n : ℕ) → openSaid kind ≡ refuses 10 n → (isKind kind ≡ false) × (n ≡ kind)
 unfolding openSaid
 ten-tells kind n e = by-demand (isKind kind) e (λ known e. absurd (not-both (sym e))) (λ unknown ten is. (unknown, sym is))
 
-pub thirteen-tells : (s : State) (n : ℕ) → strictSaid s ≡ refuses 13 n
-    → (length (s .bytes) ≡ startOf (s .kind) + 512 * blocksIn (s .kind) (s .bytes) + n) × (0 < n) × (n < 512)
-thirteen-tells s n e =
-    strict-refused-by (s .phase) (startOf (s .kind)) (length (s .bytes)) (owed s) 13 n e (λ is. absurd (omega (arith, is))) (λ is. absurd (omega (arith, is)))
-    (λ is some inside. (omega (arith, some, inside), omega (arith, some, inside), omega (arith, inside))) (λ is some owes. absurd (omega (arith, is)))
+module _ (s : State) (choice room n : ℕ) where
+  -- An end is refused by 6 only if it is a strict one while the reader drains.
+  pub six-tells : endSaid s choice room ≡ refuses 6 n → (choice ≡ strict) × (s .phase ≡ 1)
+  six-tells e =
+      end-refused-by s choice room 6 n e (λ is. absurd (omega (arith, is)))
+      (λ strictly e.
+      strict-refused-by (s .phase) _ _ (owed s) 6 n e (λ is draining. (strictly, draining)) (λ is. absurd (omega (arith, is)))
+      (λ is some inside. absurd (omega (arith, is))) (λ is some owes. absurd (omega (arith, is))))
+      (λ not-strict not-lenient is none. absurd (omega (arith, is)))
 
-pub fourteen-tells : (s : State) (n : ℕ) → strictSaid s ≡ refuses 14 n → (n ≡ owed s) × (0 < n)
-fourteen-tells s n e =
-    strict-refused-by (s .phase) (startOf (s .kind)) (length (s .bytes)) (owed s) 14 n e (λ is. absurd (omega (arith, is))) (λ is. absurd (omega (arith, is)))
-    (λ is some inside. absurd (omega (arith, is))) (λ is some owes. (sym owes, omega (arith, some, owes)))
+  -- By 13 and 14 only a strict one: beside them are how many bytes there are of a block that is not whole, and the frames owed.
+  pub thirteen-tells : endSaid s choice room ≡ refuses 13 n
+      → (choice ≡ strict) × (length (s .bytes) ≡ startOf (s .kind) + 512 * blocksIn (s .kind) (s .bytes) + n) × (0 < n) × (n < 512)
+  thirteen-tells e =
+      end-refused-by s choice room 13 n e (λ is. absurd (omega (arith, is)))
+      (λ strictly e.
+      strict-refused-by (s .phase) (startOf (s .kind)) (length (s .bytes)) (owed s) 13 n e (λ is draining. absurd (omega (arith, is)))
+      (λ is. absurd (omega (arith, is)))
+      (λ is some inside. (strictly, omega (arith, some, inside), omega (arith, some, inside), omega (arith, inside)))
+      (λ is some owes. absurd (omega (arith, is))))
+      (λ not-strict not-lenient is none. absurd (omega (arith, is)))
+
+  pub fourteen-tells : endSaid s choice room ≡ refuses 14 n → (choice ≡ strict) × (n ≡ owed s) × (0 < n)
+  fourteen-tells e =
+      end-refused-by s choice room 14 n e (λ is. absurd (omega (arith, is)))
+      (λ strictly e.
+      strict-refused-by (s .phase) _ _ (owed s) 14 n e (λ is draining. absurd (omega (arith, is))) (λ is. absurd (omega (arith, is)))
+      (λ is some inside. absurd (omega (arith, is))) (λ is some owes. (strictly, sym owes, omega (arith, some, owes))))
+      (λ not-strict not-lenient is none. absurd (omega (arith, is)))
+
+  -- By 22 every choice is refused that is neither, in whatever phase, with 0 beside it, and no other is.
+  pub twenty-two-exactly : ((choice ≡ strict → ⊥) → (choice ≡ lenient → ⊥) → endSaid s choice room ≡ refuses 22 0)
+      × (endSaid s choice room ≡ refuses 22 n → (choice ≡ strict → ⊥) × (choice ≡ lenient → ⊥) × (n ≡ 0))
+  twenty-two-exactly = (
+    chosen-neither choice (s .phase) (startOf (s .kind)) (length (s .bytes)) (owed s) room,
+    (λ e.
+        end-refused-by s choice room 22 n e (λ is. absurd (omega (arith, is)))
+        (λ strictly e.
+        strict-refused-by (s .phase) _ _ (owed s) 22 n e (λ is draining. absurd (omega (arith, is))) (λ is. absurd (omega (arith, is)))
+        (λ is some inside. absurd (omega (arith, is))) (λ is some owes. absurd (omega (arith, is))))
+        (λ not-strict not-lenient is none. (not-strict, not-lenient, sym none))),
+  )

@@ -5,15 +5,13 @@ use Prim.Native.Nat.{ℕ}
 use denote.Ref.{now}
 use Rattle.tables.specs.Settled.{SettledResult, SettledWhere}
 use Rattle.reader.specs.declared.Step.{Step}
-use Rattle.reader.proofs.Total.{only-opened, only-piece, only-strict, only-lenient, only-owed}
+use Rattle.reader.proofs.Total.{only-opened, only-piece, only-end, only-owed}
 use Rattle.reader.proofs.Reader.open.Kinds as opening
 use Rattle.reader.proofs.Reader.open.Reads as opening-reads
 use Rattle.reader.proofs.Reader.piece.Kinds as taking
 use Rattle.reader.proofs.Reader.piece.Reads as taking-reads
-use Rattle.reader.proofs.Reader.strict_end.Kinds as strict
-use Rattle.reader.proofs.Reader.strict_end.Reads as strict-reads
-use Rattle.reader.proofs.Reader.lenient_end.Kinds as lenient
-use Rattle.reader.proofs.Reader.lenient_end.Reads as lenient-reads
+use Rattle.reader.proofs.Reader.end.Kinds as ending
+use Rattle.reader.proofs.Reader.end.Reads as ending-reads
 use Rattle.reader.proofs.Reader.owed.Kinds as owing
 use Rattle.reader.proofs.Reader.owed.Reads as owing-reads
 
@@ -29,13 +27,9 @@ Seen = Step × List ℕ × List ℕ
 pub piece-settled : SettledWhere 3 taking.ps taking.r (λ κs. Seen) (λ κs x s. (x, now (s .1 .1 .0), now (s .1 .1 .1 .0))) taking-reads.Pre taking-reads.Post
 piece-settled κs a x y s t known p q = let e = only-piece known p q in (λ i. (e .0 i, e .1 i, e .2 i))
 
--- `strict_end`: answer and next reader, for every reader that open or a call gave back
-pub strict-end-settled : SettledWhere 0 strict.ps strict.r (λ κs. Step) (λ κs x s. x) strict-reads.Pre strict-reads.Post
-strict-end-settled κs a x y s t known p q = only-strict known p q
-
--- `lenient_end`: as of a piece
-pub lenient-end-settled : SettledWhere 2 lenient.ps lenient.r (λ κs. Seen) (λ κs x s. (x, now (s .1 .0), now (s .1 .1 .0))) lenient-reads.Pre lenient-reads.Post
-lenient-end-settled κs a x y s t known p q = let e = only-lenient known p q in (λ i. (e .0 i, e .1 i, e .2 i))
+-- `end`: as of a piece, by any choice
+pub end-settled : SettledWhere 2 ending.ps ending.r (λ κs. Seen) (λ κs x s. (x, now (s .1 .1 .0), now (s .1 .1 .1 .0))) ending-reads.Pre ending-reads.Post
+end-settled κs a x y s t known p q = let e = only-end known p q in (λ i. (e .0 i, e .1 i, e .2 i))
 
 -- `owed`: the number
 pub owed-settled : SettledWhere 0 owing.ps owing.r (λ κs. ℕ) (λ κs x s. x) owing-reads.Pre owing-reads.Post

@@ -9,11 +9,11 @@ use lib.Dec.{eqb, leb}
 use Rattle.tables.specs.Lent.{over}
 use Rattle.blocks.specs.Places.{limit}
 use Rattle.blocks.specs.Headers.{Bytes}
-use Rattle.refusals.specs.Said.{Said, answers, refusal, demand}
+use Rattle.refusals.specs.Said.{Said, answers, refusal, refuses, demand}
 use Rattle.sp.specs.Readings.{Reading, joinedByteAt, fileCountAt}
 use Rattle.sp.specs.Outcome.{roomIn, demuxedSays}
 use Rattle.reader.specs.declared.Step.{Step}
-use Rattle.reader.specs.State.{State, opened, unopened, isKind, startOf, readingBy, readyBy, fitsBy, handed, owed, readerOf, headerFull, headerDone, Sound}
+use Rattle.reader.specs.State.{State, opened, unopened, isKind, startOf, readingBy, readyBy, fitsBy, handed, owed, readerOf, headerFull, Sound}
 
 -- open: a kind that there is
 unfoldable pub openSaid : ℕ → Said ℕ
@@ -51,22 +51,34 @@ strictBy phase a long owed =
     (demand (eqb (inBlock a long) 0) 13 (inBlock a long)
     (demand (eqb owed 0) 14 owed (answers 0)))))
 
-abbrev pub strictSaid : State → Said ℕ
-strictSaid s = strictBy (s .phase) (startOf (s .kind)) (length (s .bytes)) (owed s)
-
-abbrev pub afterStrict : State → Said ℕ → State
-afterStrict s (answers n) = record { kind = s .kind; bytes = s .bytes; drained = s .drained; phase = 2 }
-afterStrict s (refusal why) = s
-
 -- the lenient end: the header is full, and as many of the owed packets come as there is room for
-unfoldable pub lenientSaid : State → ℕ → Said ℕ
-lenientSaid s room = demand (headerDone s) 3 (startOf (s .kind)) (answers (min room (owed s)))
+unfoldable pub lenientBy : ℕ → ℕ → ℕ → ℕ → Said ℕ
+lenientBy a long owed room = demand (headerFull a long) 3 a (answers (min room owed))
 
--- it drains while some are owed, and has ended when none is
-abbrev pub afterLenient : State → Said ℕ → State
-afterLenient s (answers n) =
+-- an end, by which of the two is meant; there is no third, in no phase
+abbrev pub strict : ℕ
+strict = 0
+
+abbrev pub lenient : ℕ
+lenient = 1
+
+abbrev pub endBy : ℕ → ℕ → ℕ → ℕ → ℕ → ℕ → Said ℕ
+endBy choice phase a long owed room =
+    cond (eqb choice strict) (strictBy phase a long owed) (cond (eqb choice lenient) (lenientBy a long owed room) (refuses 22 0))
+
+abbrev pub endSaid : State → ℕ → ℕ → Said ℕ
+endSaid s choice room = endBy choice (s .phase) (startOf (s .kind)) (length (s .bytes)) (owed s) room
+
+-- one that is answered has handed out so many more: the reader drains while some are owed, and has ended when none is
+abbrev pub afterEnd : State → Said ℕ → State
+afterEnd s (answers n) =
     record { kind = s .kind; bytes = s .bytes; drained = s .drained + n; phase = cond (eqb n (owed s)) 2 1 }
-afterLenient s (refusal why) = s
+afterEnd s (refusal why) = s
+
+-- how many packets what is said hands out
+abbrev pub handedBy : Said ℕ → ℕ
+handedBy (answers n) = n
+handedBy (refusal why) = 0
 
 -- what is left in the output and in the count table: that many packets of a reading from its packet k on, in front. A refused call
 -- leaves both as they were
@@ -97,16 +109,12 @@ pub record Takes (s : State) (piece out out′ counts counts′ : List ℕ) (ste
   pub steps : Steps (pieceSaid s piece (roomIn out counts)) (afterPiece s piece (pieceSaid s piece (roomIn out counts))) step
   pub hands : Hands (readingBy (s .kind) (s .bytes ++ piece)) (handed s) (pieceSaid s piece (roomIn out counts)) out out′ counts counts′
 
-abbrev pub EndsStrictly : State → Step → Type 0
-EndsStrictly s step = Steps (strictSaid s) (afterStrict s (strictSaid s)) step
-
-pub record EndsLeniently (s : State) (out out′ counts counts′ : List ℕ) (step : Step) : Type 0 where
-  pub steps : Steps (lenientSaid s (roomIn out counts)) (afterLenient s (lenientSaid s (roomIn out counts))) step
-  pub hands : Hands (readingBy (s .kind) (s .bytes)) (handed s) (lenientSaid s (roomIn out counts)) out out′ counts counts′
+pub record Ends (s : State) (choice : ℕ) (out out′ counts counts′ : List ℕ) (step : Step) : Type 0 where
+  pub steps : Steps (endSaid s choice (roomIn out counts)) (afterEnd s (endSaid s choice (roomIn out counts))) step
+  pub hands : Hands (readingBy (s .kind) (s .bytes)) (handed s) (endSaid s choice (roomIn out counts)) out out′ counts counts′
 
 -- the states that open and the calls lead to
 pub data Reachable : State → Type 0 where
   by-open : (kind : ℕ) → Reachable (afterOpen kind (openSaid kind))
   by-piece : {s : State} (piece : List ℕ) (room : ℕ) → Bytes piece → Reachable s → Reachable (afterPiece s piece (pieceSaid s piece room))
-  by-strict : {s : State} → Reachable s → Reachable (afterStrict s (strictSaid s))
-  by-lenient : {s : State} (room : ℕ) → Reachable s → Reachable (afterLenient s (lenientSaid s room))
+  by-end : {s : State} (choice room : ℕ) → Reachable s → Reachable (afterEnd s (endSaid s choice room))

@@ -13,19 +13,16 @@ use Rattle.sp.specs.Outcome.{roomIn, demuxedSays}
 use Rattle.reader.specs.declared.Reader.{Reader}
 use Rattle.reader.specs.declared.Step.{Step}
 use Rattle.reader.specs.State.{State, owed, readerOf, Sound}
-use Rattle.reader.specs.Calls.{Takes, EndsStrictly, EndsLeniently}
+use Rattle.reader.specs.Calls.{Takes, strict, lenient, Ends}
 
 -- what the contracts say of a call on a reader
 abbrev pub PieceCall : Reader → List ℕ → List ℕ → List ℕ → List ℕ → List ℕ → Step → Type 0
 PieceCall reader piece out out′ counts counts′ step =
     (s : State) → reader ≡ readerOf s → Sound s → Takes s piece out out′ counts counts′ step
 
-abbrev pub StrictCall : Reader → Step → Type 0
-StrictCall reader step = (s : State) → reader ≡ readerOf s → Sound s → EndsStrictly s step
-
-abbrev pub LenientCall : Reader → List ℕ → List ℕ → List ℕ → List ℕ → Step → Type 0
-LenientCall reader out out′ counts counts′ step =
-    (s : State) → reader ≡ readerOf s → Sound s → EndsLeniently s out out′ counts counts′ step
+abbrev pub EndCall : Reader → ℕ → List ℕ → List ℕ → List ℕ → List ℕ → Step → Type 0
+EndCall reader choice out out′ counts counts′ step =
+    (s : State) → reader ≡ readerOf s → Sound s → Ends s choice out out′ counts counts′ step
 
 abbrev pub OwedCall : Reader → ℕ → Type 0
 OwedCall reader n = (s : State) → reader ≡ readerOf s → Sound s → n ≡ owed s
@@ -46,14 +43,12 @@ unfoldable pub joined : List (List ℕ) → List ℕ
 joined [] = []
 joined (piece ∷ rest) = piece ++ joined rest
 
--- a call on a reader was refused, and gave another back
+-- a call on a reader was refused, and gave another back: a piece, or an end by any choice
 pub data Refuses : Reader → Reader → Type 0 where
   a-piece : {reader : Reader} (piece out out′ counts counts′ : List ℕ) (step : Step) (why : Refusal)
       → PieceCall reader piece out out′ counts counts′ step → demuxedSays (step .answer) ≡ refusal why → Refuses reader (step .reader)
-  a-strict-end : {reader : Reader} (step : Step) (why : Refusal) → StrictCall reader step → demuxedSays (step .answer) ≡ refusal why
-      → Refuses reader (step .reader)
-  a-lenient-end : {reader : Reader} (out out′ counts counts′ : List ℕ) (step : Step) (why : Refusal)
-      → LenientCall reader out out′ counts counts′ step → demuxedSays (step .answer) ≡ refusal why → Refuses reader (step .reader)
+  an-end : {reader : Reader} (choice : ℕ) (out out′ counts counts′ : List ℕ) (step : Step) (why : Refusal)
+      → EndCall reader choice out out′ counts counts′ step → demuxedSays (step .answer) ≡ refusal why → Refuses reader (step .reader)
 
 -- a reader accepted these pieces, refused any other calls in between, and became another; n packets came out
 pub data Fed : Reader → List (List ℕ) → ℕ → List ℕ → List ℕ → Reader → Type 0 where
@@ -69,11 +64,11 @@ pub data Fed : Reader → List (List ℕ) → ℕ → List ℕ → List ℕ → 
 pub data Drained : Reader → List ℕ → ℕ → List ℕ → List ℕ → Reader → Type 0 where
   none : {reader : Reader} → Drained reader [] 0 [] [] reader
   more : {reader last : Reader} {room : ℕ} {rest : List ℕ} {n m : ℕ} {packets entries : List ℕ}
-      (out out′ counts counts′ : List ℕ) (step : Step) → roomIn out counts ≡ room → LenientCall reader out out′ counts counts′ step
+      (out out′ counts counts′ : List ℕ) (step : Step) → roomIn out counts ≡ room → EndCall reader lenient out out′ counts counts′ step
       → demuxedSays (step .answer) ≡ answers n → Drained (step .reader) rest m packets entries last
       → Drained reader (room ∷ rest) (n + m) (take (42 * n) out′ ++ packets) (take n counts′ ++ entries) last
-  strictly : {reader last : Reader} {rooms : List ℕ} {n m : ℕ} {packets entries : List ℕ} (step : Step) → StrictCall reader step
-      → demuxedSays (step .answer) ≡ answers m → Drained (step .reader) rooms n packets entries last
+  strictly : {reader last : Reader} {rooms : List ℕ} {n m : ℕ} {packets entries : List ℕ} (out out′ counts counts′ : List ℕ) (step : Step)
+      → EndCall reader strict out out′ counts counts′ step → demuxedSays (step .answer) ≡ answers m → Drained (step .reader) rooms n packets entries last
       → Drained reader rooms n packets entries last
   refused : {reader next last : Reader} {rooms : List ℕ} {n : ℕ} {packets entries : List ℕ} → Refuses reader next
       → Drained next rooms n packets entries last → Drained reader rooms n packets entries last
@@ -85,13 +80,10 @@ pub data Called : Reader → List (List ℕ) → ℕ → List ℕ → List ℕ �
       (out out′ counts counts′ : List ℕ) (step : Step) → PieceCall reader piece out out′ counts counts′ step
       → demuxedSays (step .answer) ≡ answers n → Called (step .reader) rest m packets entries last
       → Called reader (piece ∷ rest) (n + m) (take (42 * n) out′ ++ packets) (take n counts′ ++ entries) last
-  leniently : {reader last : Reader} {pieces : List (List ℕ)} {n m : ℕ} {packets entries : List ℕ}
-      (out out′ counts counts′ : List ℕ) (step : Step) → LenientCall reader out out′ counts counts′ step
+  ended : {reader last : Reader} {pieces : List (List ℕ)} {n m : ℕ} {packets entries : List ℕ} (choice : ℕ)
+      (out out′ counts counts′ : List ℕ) (step : Step) → EndCall reader choice out out′ counts counts′ step
       → demuxedSays (step .answer) ≡ answers n → Called (step .reader) pieces m packets entries last
       → Called reader pieces (n + m) (take (42 * n) out′ ++ packets) (take n counts′ ++ entries) last
-  strictly : {reader last : Reader} {pieces : List (List ℕ)} {n m : ℕ} {packets entries : List ℕ} (step : Step) → StrictCall reader step
-      → demuxedSays (step .answer) ≡ answers m → Called (step .reader) pieces n packets entries last
-      → Called reader pieces n packets entries last
   refused : {reader next last : Reader} {pieces : List (List ℕ)} {n : ℕ} {packets entries : List ℕ} → Refuses reader next
       → Called next pieces n packets entries last → Called reader pieces n packets entries last
 

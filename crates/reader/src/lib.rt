@@ -16,9 +16,14 @@ ghost use lib.Dec.{eqb, leb};
 ghost use Rattle.refusals.specs.Said.{answers, demand};
 ghost use Rattle.sp.specs.Outcome.{demuxedSays};
 ghost use Rattle.reader.specs.State.{isKind, startOf, Reached};
-ghost use Rattle.reader.specs.Calls.{strictBy, Opens};
-ghost use Rattle.reader.specs.History.{PieceCall, StrictCall, LenientCall, OwedCall};
+ghost use Rattle.reader.specs.Calls.{strictBy, lenientBy, endBy, handedBy, Opens};
+ghost use Rattle.reader.specs.History.{PieceCall, EndCall, OwedCall};
 ghost use Rattle.pieces.specs.Inner.{accepts};
+
+// The two ends, as `end` takes them.
+pub const STRICT: u64 = 0;
+
+pub const LENIENT: u64 = 1;
 
 // A reader by value: each call takes it and hands the next one back. All fields are numbers or arrays of them. `kind` is 0 for DS2 and 2
 // or 3 for DSS; `phase` is 0 while it takes pieces, 1 while it drains, 2 when it has ended. Then: bytes taken, frames announced, packets
@@ -135,20 +140,44 @@ fn strict(phase: u64, a: FilePlace, taken: usize, owed: usize) -> Verdict
     pieces::accepted(0)
 }
 
-fn lenient_answer(done: bool, a: FilePlace, some: usize) -> Demuxed
-    ensures { λ r. ⌜ demuxedSays r ≡ demand done 3 (a .0) (answers some) ⌝ }
+// What the lenient end says, by so many bytes taken, frames owed and packets that there is room for.
+fn lenient(a: FilePlace, taken: usize, owed: usize, room: usize) -> Verdict
+    ensures { λ r. ⌜ (demuxedSays (r .answer) ≡ lenientBy (a .0) taken owed room) × (r .accepted ≡ accepts (demuxedSays (r .answer))) ⌝ }
 {
-    if done {
-        return Demuxed::Packets(some);
+    if header_done(taken, a) {
+        return pieces::accepted(tables::lesser(room, owed));
     }
-    Demuxed::Refused(Refusal::header(a))
+    pieces::refused(Refusal::header(a))
 }
 
-// The phase after a lenient end that hands out so many of the packets owed.
-fn end_phase(done: bool, phase: u64, some: usize, owed: usize) -> u64
-    ensures { λ r. ⌜ r ≡ cond done (cond (eqb some owed) 2 1) phase ⌝ }
+// What an end says, by which of the two is meant.
+fn decide(choice: u64, phase: u64, a: FilePlace, taken: usize, owed: usize, room: usize) -> Verdict
+    ensures { λ r. ⌜ (demuxedSays (r .answer) ≡ endBy choice phase (a .0) taken owed room) × (r .accepted ≡ accepts (demuxedSays (r .answer))) ⌝ }
 {
-    if !done {
+    if choice == STRICT {
+        return strict(phase, a, taken, owed);
+    }
+    if choice == LENIENT {
+        return lenient(a, taken, owed, room);
+    }
+    pieces::refused(Refusal::choice())
+}
+
+// How many packets an answer hands out.
+fn handed_by(answer: Demuxed) -> usize
+    ensures { λ r. ⌜ r ≡ handedBy (demuxedSays answer) ⌝ }
+{
+    match answer {
+        Demuxed::Packets(n) => n,
+        Demuxed::Refused(_) => 0,
+    }
+}
+
+// The phase after an end that hands out so many of the packets owed, if it is answered.
+fn end_phase(accepted: bool, phase: u64, some: usize, owed: usize) -> u64
+    ensures { λ r. ⌜ r ≡ cond accepted (cond (eqb some owed) 2 1) phase ⌝ }
+{
+    if !accepted {
         return phase;
     }
     if some == owed { 2 } else { 1 }
@@ -236,28 +265,13 @@ impl Reader {
             reader: self,
         }
     }
-    // Ends the reader if it has a full header, whole blocks only and no frame owed; or refuses: 6, 3, 13 or 14. An ended reader answers
-    // that there are no packets.
-    pub fn strict_end(mut self) -> Step
+    // Ends the reader, strictly or leniently as the choice has it, and refuses any other choice by 22. The strict end hands out nothing; it is
+    // answered if there is a full header, whole blocks only and no frame owed, or refuses: 6, 3, 13 or 14. The lenient end drops a block that is
+    // not whole and hands out the packets that are owed, zeros past the stream's end, as many as there is room for; or refuses by 3. While some
+    // are owed the reader drains, and then it has ended: either end answers that there are no packets.
+    pub fn end(mut self, choice: u64, out: &mut [u8], counts: &mut [u8]) -> Step
         requires { ⌜ Reached self ⌝ }
-        ensures { λ r. ⌜ StrictCall self r ⌝ }
-    {
-        let a = start_of(self.kind);
-        let owed = self.announced - self.ready - self.drained;
-        let verdict = strict(self.phase, a, self.taken, owed);
-        self.phase = chosen(verdict.accepted, 2, self.phase);
-        let answer = verdict.answer;
-        Step {
-            answer,
-            reader: self,
-        }
-    }
-
-    // Drops a block that is not whole and hands out the packets that are owed, zeros past the stream's end, as many as there is room
-    // for; or refuses by 3. While some are owed the reader drains, and then it has ended.
-    pub fn lenient_end(mut self, out: &mut [u8], counts: &mut [u8]) -> Step
-        requires { ⌜ Reached self ⌝ }
-        ensures { λ r. ⌜ LenientCall self (now (out .entry)) (now (out .exit)) (now (counts .entry)) (now (counts .exit)) r ⌝ }
+        ensures { λ r. ⌜ EndCall self choice (now (out .entry)) (now (out .exit)) (now (counts .entry)) (now (counts .exit)) r ⌝ }
     {
         let dss = self.kind != 0;
         let a = start_of(self.kind);
@@ -271,9 +285,13 @@ impl Reader {
         };
         let drained = self.drained;
         let owed = was.announced - was.ready - drained;
-        let some = tables::lesser(room_for(out.len(), counts.len()), owed);
+        let room = room_for(out.len(), counts.len());
+        let verdict = decide(choice, self.phase, a, taken, owed, room);
+        let answer = verdict.answer;
+        let some = handed_by(answer);
         let blocks = blocks::whole_blocks(taken, a);
         let waiting = self.waiting;
+        // what is to come, none of it where the end is strict or refused
         let carry = hold_either::write_owed(
             dss,
             was,
@@ -287,9 +305,7 @@ impl Reader {
         );
         self.carry = carry;
         self.drained = drained + some;
-        let done = header_done(taken, a);
-        self.phase = end_phase(done, self.phase, some, owed);
-        let answer = lenient_answer(done, a, some);
+        self.phase = end_phase(verdict.accepted, self.phase, some, owed);
         Step {
             answer,
             reader: self,

@@ -182,4 +182,11 @@ impl Refusal {
     {
         Self::by(21, number as u64)
     }
+
+    // An end is asked for that is neither the strict one nor the lenient one.
+    pub fn choice() -> Self
+        ensures { λ r. ⌜ r ≡ numbered 22 0 ⌝ }
+    {
+        Self::by(22, 0)
+    }
 }

@@ -1,8 +1,9 @@
 // One file in pieces: what a reader hands out that is fed it and drained, against the file's whole reading. Rests on reader,
 // test_feeding, test_ends, test_generated, test_readings, test_sums and test_tools.
 use reader::Reader;
+use reader::STRICT;
 use test_ends::drained_by_64;
-use test_ends::strict_said;
+use test_ends::end_said;
 use test_generated::Made;
 use test_generated::tried::Tried;
 use test_generated::tried::show_cuts;
@@ -11,14 +12,18 @@ use test_readings::Whole;
 use test_sums::Sums;
 use test_tools::Cuts;
 
-// What a file gives in pieces and to the drained end: what the pieces brought, the frames owed then, the strict end's refusal, and all that
-// came out.
+// What a file gives in pieces and to the drained end: what the pieces brought, the frames owed then, what an end gets by a choice that is
+// neither, what the strict end gets, and all that came out.
 struct ToTheEnd {
     came: Sums,
     owed: usize,
+    neither: Sums,
     strict: Sums,
     all: Sums,
 }
+
+// A choice that is neither the strict nor the lenient end; its lowest byte is the lenient one's.
+const NEITHER: u64 = 257;
 
 // Opens a reader, feeds it the file and drains it.
 fn drained(kind: u64, file: &[u8], cuts: Cuts, out: &mut [u8], counts: &mut [u8]) -> ToTheEnd {
@@ -28,11 +33,13 @@ fn drained(kind: u64, file: &[u8], cuts: Cuts, out: &mut [u8], counts: &mut [u8]
     let came = fed.sums;
     let taken = fed.reader;
     let owed = taken.owed();
-    let strict = strict_said(taken);
+    let neither = end_said(taken, NEITHER, out, counts);
+    let strict = end_said(taken, STRICT, out, counts);
     let all = drained_by_64(taken, came);
     ToTheEnd {
         came,
         owed,
+        neither,
         strict,
         all,
     }
@@ -46,15 +53,17 @@ fn strict_number(cut: usize, owed: usize) -> u64 {
     if owed != 0 { 14 } else { 0 }
 }
 
-// A reader that took the whole file and was drained: nothing announced goes uncounted before the end, the strict end tells the bytes inside a
-// block or the frames owed, and all packets are the whole reading's after it.
+// A reader that took the whole file and was drained: nothing announced goes uncounted before the end, there is no third end, the strict one tells
+// the bytes inside a block or the frames owed, and all packets are the whole reading's after it.
 fn end_differs(number: u64, cut: usize, whole: Whole, drained: ToTheEnd) -> usize {
     let came = drained.came;
+    let neither = drained.neither;
     let strict = drained.strict;
     let all = drained.all;
     let owed = drained.owed;
     let expected = [
         whole[test_readings::ANNOUNCED],
+        22,
         strict_number(cut, owed),
         if cut != 0 { cut as u64 } else { owed as u64 },
         whole[test_readings::MANY],
@@ -63,13 +72,14 @@ fn end_differs(number: u64, cut: usize, whole: Whole, drained: ToTheEnd) -> usiz
     ];
     let got = [
         std::num::wrapping_add_u64(came[test_sums::PACKETS], owed as u64),
+        neither[test_sums::NUMBER],
         strict[test_sums::NUMBER],
         strict[test_sums::BESIDE],
         all[test_sums::PACKETS],
         all[test_sums::BYTES],
         all[test_sums::COUNTS],
     ];
-    test_tools::all_differ(b"pieces of file ", number, &expected, &got, 6)
+    test_tools::all_differ(b"pieces of file ", number, &expected, &got, 7)
 }
 
 // How many answers to a file cut in one way are not the whole reading's. Only a DS2 piece may be refused, and only by 7.

@@ -2,6 +2,7 @@
 // program, on test_expected, listing, test_readings, test_tools and tables.
 use crate::fed::Pieces;
 use crate::fed::in_pieces;
+use crate::fed::with_choice;
 use crate::fed::with_more;
 use crate::fed::with_pieces;
 use test_expected::Seen;
@@ -10,7 +11,7 @@ use test_expected::expect_all;
 use test_expected::making::next_case;
 use test_tools::Cuts;
 
-// What is asked of a file, in 15 numbers. The kind of a reader, and how the file is cut for it:
+// What is asked of a file, in 16 numbers. The kind of a reader, and how the file is cut for it:
 const KIND: usize = 0;
 
 const FIRST: usize = 1;
@@ -31,7 +32,7 @@ const RECORDS: usize = 7;
 const SEGMENTS: usize = 8;
 
 // a frame by its place and size with a scratch of so many bytes, a block's payload, and what stands in the file at a place, as a part of so
-// many bytes.
+// many bytes; a choice of an end that is neither.
 const PLACE: usize = 9;
 
 const SIZE: usize = 10;
@@ -44,7 +45,9 @@ const PROBE: usize = 13;
 
 const PART: usize = 14;
 
-const ASKED: usize = 15;
+const CHOICE: usize = 15;
+
+const ASKED: usize = 16;
 
 // The listing's line and the tally.
 fn listed(list: &[u8], before: Seen, file: &[u8]) -> Seen {
@@ -63,7 +66,8 @@ fn with_rest(list: &[u8], before: Seen, case: [u64; 16], file: &[u8], pieces: Pi
     seen = listed(list, seen, file);
     seen = test_asked::probed(list, seen, file, case[PROBE], case[PART]);
     seen = with_more(list, seen, pieces);
-    test_asked::placed(list, seen, file, case[PLACE], case[SIZE], case[SCRATCH])
+    seen = test_asked::placed(list, seen, file, case[PLACE], case[SIZE], case[SCRATCH]);
+    with_choice(list, seen, pieces)
 }
 
 // The whole calls of QP and QP7.
@@ -91,7 +95,8 @@ fn in_room(
 ) -> Seen {
     let mut seen = test_asked::both_sp(list, before, file, out, counts);
     seen = with_tables(list, seen, case, file);
-    let pieces = in_pieces(case[KIND], file, cuts_of(case), out, counts);
+    let cuts = cuts_of(case);
+    let pieces = in_pieces(case[KIND], file, cuts, case[CHOICE], out, counts);
     with_rest(list, seen, case, file, pieces)
 }
 

@@ -34,24 +34,38 @@ pub struct Pieces {
 }
 
 // Feeds a reader the file, and ends it.
-fn run(reader: Reader, file: &[u8], cuts: Cuts, out: &mut [u8], counts: &mut [u8]) -> Course
+fn run(
+    reader: Reader,
+    file: &[u8],
+    cuts: Cuts,
+    choice: u64,
+    out: &mut [u8],
+    counts: &mut [u8],
+) -> Course
     requires { ⌜ Reached reader ⌝ }
 {
     let fed = test_feeding::feed(reader, file, cuts, out, counts);
     let came = fed.sums;
     let taken = fed.reader;
-    let ended = test_ends::ends_of(taken, out, counts);
+    let ended = test_ends::ends_of(taken, choice, out, counts);
     Course { came, ended }
 }
 
-// Opens a reader, feeds it the file, and ends it.
-pub fn in_pieces(kind: u64, file: &[u8], cuts: Cuts, out: &mut [u8], counts: &mut [u8]) -> Pieces {
+// Opens a reader, feeds it the file, and ends it, also by a choice.
+pub fn in_pieces(
+    kind: u64,
+    file: &[u8],
+    cuts: Cuts,
+    choice: u64,
+    out: &mut [u8],
+    counts: &mut [u8],
+) -> Pieces {
     let step = Reader::open(kind);
     let answer = step.answer;
     let reader = step.reader;
     let opened = test_sums::told(answer, out, counts);
     let fresh = test_ends::empty_piece(reader, out, counts);
-    let course = run(reader, file, cuts, out, counts);
+    let course = run(reader, file, cuts, choice, out, counts);
     let came = course.came;
     let ended = course.ended;
     Pieces {
@@ -132,6 +146,23 @@ pub fn with_more(list: &[u8], before: Seen, pieces: Pieces) -> Seen {
     let said = [opened[PACKETS], fresh[NUMBER], fresh[PACKETS], came[PAST]];
     let seen = expect_all(list, before, &said, 0, 4);
     with_rest(list, seen, ended)
+}
+
+// An end by a choice that is neither, after the lenient end.
+fn with_late_choice(list: &[u8], before: Seen, lenient: LenientEnd) -> Seen {
+    let late = lenient.neither;
+    expect_all(list, before, &late, NUMBER, BYTES)
+}
+
+// What the strict end left untouched, and the ends by a choice that is neither, before the others and after the lenient one.
+pub fn with_choice(list: &[u8], before: Seen, pieces: Pieces) -> Seen {
+    let ended = pieces.ended;
+    let strict = ended.strict;
+    let neither = ended.neither;
+    let lenient = ended.lenient;
+    let mut seen = expect(list, before, strict[PAST]);
+    seen = expect_all(list, seen, &neither, NUMBER, BYTES);
+    with_late_choice(list, seen, lenient)
 }
 
 // A DSS reader at the limit and a byte past it: 268,435,456 bytes are taken, and one more is refused by 2.

@@ -45,8 +45,7 @@ static const struct named exports[EXPORTS] = {
     [BY_INDEX] = {"klov_dss_packet", 6, SIX, WHOLE | INDEX | BIT(18) | BIT(8)},
     [OPEN] = {"klov_open", 6, SIX, BIT(10)},
     [PIECE] = {"klov_piece", 6, SIX, BIT(6) | BIT(2) | BIT(7) | BIT(8)},
-    [STRICT_END] = {"klov_strict_end", 6, SIX, BIT(6) | BIT(3) | BIT(13) | BIT(14)},
-    [LENIENT_END] = {"klov_lenient_end", 6, SIX, BIT(3)},
+    [END] = {"klov_end", 6, SIX, BIT(6) | BIT(22) | BIT(3) | BIT(13) | BIT(14)},
 };
 
 uint64_t calls, checks, wrong;
@@ -151,10 +150,8 @@ static void perform_reader(const struct question *q, struct slice b, struct slic
         *q->reader = opened.reader;
     } else if (q->export == PIECE) {
         a = klov_piece(q->reader, q->in.at, q->in.len, b.at, b.len, c.at, c.len);
-    } else if (q->export == STRICT_END) {
-        a = klov_strict_end(q->reader);
     } else {
-        a = klov_lenient_end(q->reader, b.at, b.len, c.at, c.len);
+        a = klov_end(q->reader, q->x, b.at, b.len, c.at, c.len);
     }
     memcpy(numbers, &a, sizeof a);
 }

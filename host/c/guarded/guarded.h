@@ -47,7 +47,7 @@ void check_canary(const char *what, const struct area *a, struct slice s, const 
 
 enum export {
     DETECT_FORMAT, DETECT_START, DETECT_TYPE, IS_HEADER, PAYLOAD, DEMUX_DSS, DEMUX_DS2_SP, AT_ONCE, DEMUX_QP, DEMUX_QP7, FRAME_OF,
-    FETCH, SHOW, TALLY, WRITE, BUILD_INDEX, READ_INDEX, FIND_ENTRY, BY_INDEX, OPEN, PIECE, STRICT_END, LENIENT_END, EXPORTS
+    FETCH, SHOW, TALLY, WRITE, BUILD_INDEX, READ_INDEX, FIND_ENTRY, BY_INDEX, OPEN, PIECE, END, EXPORTS
 };
 
 /* The arguments of a call. `in` is lent to read, and so is `also`: the packets for a call that writes a file, the index for one
@@ -157,8 +157,7 @@ struct modelled model_open(uint64_t kind, const uint8_t *bytes);
 uint64_t model_owed(const struct modelled *m);
 struct answer model_piece(struct modelled *m, uint64_t len, uint64_t room, uint8_t *out, uint8_t *counts);
 uint64_t model_needed(const struct modelled *m, uint64_t len);
-struct answer model_strict(struct modelled *m);
-struct answer model_lenient(struct modelled *m, uint64_t room, uint8_t *out, uint8_t *counts);
+struct answer model_end(struct modelled *m, uint64_t choice, uint64_t room, uint8_t *out, uint8_t *counts);
 
 /* ---- entries.c: the index of a DSS recording ---- */
 
@@ -191,8 +190,7 @@ void reader_calls(struct file f, uint64_t kind);
 void reader_opens(void);
 void rule_both_ways(struct file f);
 void expect_piece(struct modelled *m, klov_reader *r, struct slice piece, uint64_t out_len, uint64_t counts_len);
-void expect_strict(struct modelled *m, klov_reader *r);
-void expect_lenient(struct modelled *m, klov_reader *r, uint64_t out_len, uint64_t counts_len);
+void expect_end(struct modelled *m, klov_reader *r, uint64_t choice, uint64_t out_len, uint64_t counts_len);
 klov_reader *expect_open(uint64_t kind);
 void edges(void);
 void writings(void);

@@ -104,10 +104,10 @@ static void pieces_to_limit(uint64_t kind, const size_t *cuts, size_t n)
     }
     give(&m, r, 0, 1, false);
     give(&m, r, PAGE, 0, false);
-    expect_strict(&m, r);
-    expect_lenient(&m, r, 100 * PACKET, 7);
-    expect_lenient(&m, r, 1000 * PACKET, 1000);
-    expect_strict(&m, r);
+    expect_end(&m, r, KLOV_STRICT, 0, 0);
+    expect_end(&m, r, KLOV_LENIENT, 100 * PACKET, 7);
+    expect_end(&m, r, KLOV_LENIENT, 1000 * PACKET, 1000);
+    expect_end(&m, r, KLOV_STRICT, 0, 0);
 }
 
 /* Every block announces, and on the whole a little more than there is, so that the reader never has much unread. */

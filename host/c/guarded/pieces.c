@@ -51,16 +51,23 @@ void expect_piece(struct modelled *m, klov_reader *r, struct slice piece, uint64
     expect(&q, &want);
 }
 
-void expect_strict(struct modelled *m, klov_reader *r)
+void expect_end(struct modelled *m, klov_reader *r, uint64_t choice, uint64_t out_len, uint64_t counts_len)
 {
-    struct answer want = model_strict(m);
-    expect(&(struct question){.export = STRICT_END, .reader = r}, &want);
+    struct answer want = model_end(m, choice, room_of(out_len, counts_len), want_out, want_counts);
+    expect(&(struct question){.export = END, .reader = r, .x = choice, .b_len = out_len, .c_len = counts_len}, &want);
 }
 
-void expect_lenient(struct modelled *m, klov_reader *r, uint64_t out_len, uint64_t counts_len)
+/* A strict end, which hands out nothing whatever room there is. */
+static void expect_strict(struct modelled *m, klov_reader *r)
 {
-    struct answer want = model_lenient(m, room_of(out_len, counts_len), want_out, want_counts);
-    expect(&(struct question){.export = LENIENT_END, .reader = r, .b_len = out_len, .c_len = counts_len}, &want);
+    expect_end(m, r, KLOV_STRICT, draw(3 * PACKET), draw(3));
+}
+
+/* A choice that is neither: a small one, one with only high bits beside the lenient end's, or any. */
+static void expect_neither(struct modelled *m, klov_reader *r)
+{
+    const uint64_t choices[] = {2, 2 + draw(254), KLOV_LENIENT + (UINT64_C(1) << (1 + draw(63))), UINT64_C(1) << (1 + draw(63)), UINT64_MAX - draw(3)};
+    expect_end(m, r, choices[draw(5)], draw(3 * PACKET), draw(3));
 }
 
 /* An empty piece asks what is owed: it is taken while the reader takes pieces, and else refused by 6. */
@@ -74,28 +81,30 @@ static void no_more_pieces(struct modelled *m, klov_reader *r)
 {
     ask_owed(m, r);
     expect_piece(m, r, lend_copy(&piece_area, "x", 1), PACKET, 1);
+    expect_neither(m, r);
 }
 
-/* Ends a reader: strictly, if that succeeds, else by lenient ends with little room. */
+/* Ends a reader: strictly, if that succeeds, else by lenient ends with little room. By no other choice. */
 static void end_reader(struct modelled *m, klov_reader *r)
 {
+    expect_neither(m, r);
     expect_strict(m, r);
     ask_owed(m, r);
     if (m->phase == TAKING)
-        expect_lenient(m, r, draw(PACKET), draw(3));
+        expect_end(m, r, KLOV_LENIENT, draw(PACKET), draw(3));
     for (int turn = 0; m->phase == DRAINING; turn++) {
         no_more_pieces(m, r);
         expect_strict(m, r);
         uint64_t room = turn == 0 ? 1 : 1 + draw(model_owed(m) + 1);
-        expect_lenient(m, r, PACKET * room + draw(PACKET), turn == 1 ? 0 : room + draw(2));
+        expect_end(m, r, KLOV_LENIENT, PACKET * room + draw(PACKET), turn == 1 ? 0 : room + draw(2));
         r = moved(r);
     }
     if (m->phase != ENDED)
         return;
     no_more_pieces(m, r);
-    expect_lenient(m, r, 3 * PACKET, 3);
+    expect_end(m, r, KLOV_LENIENT, 3 * PACKET, 3);
     expect_strict(m, r);
-    expect_lenient(m, r, 0, 0);
+    expect_end(m, r, KLOV_LENIENT, 0, 0);
     no_more_pieces(m, r);
 }
 
@@ -153,8 +162,10 @@ void reader_calls(struct file f, uint64_t kind)
         if (m.joined.len == before && len > 0)
             break; /* refused by 7: nothing more fits */
         struct modelled strict = m;
-        if (draw(6) == 0 && model_strict(&strict).numbers[0] != 0)
+        if (draw(6) == 0 && model_end(&strict, KLOV_STRICT, 0, want_out, want_counts).numbers[0] != 0)
             expect_strict(&m, r);
+        if (draw(6) == 0)
+            expect_neither(&m, r);
     }
     end_reader(&m, r);
 }
@@ -182,7 +193,7 @@ void rule_both_ways(struct file f)
     if (a.refusal == KLOV_REFUSED_HOLD)
         return;
     check_number("a piece with KLOV_ROOM", 0, a.refusal);
-    bool answers = klov_strict_end(&r).refusal == KLOV_ANSWERED;
+    bool answers = klov_end(&r, KLOV_STRICT, want_out, 0, want_counts, 0).refusal == KLOV_ANSWERED;
     bool complete = answers && (a.first == 0 || want_counts[0] == PACKET);
     check_number("whether it is complete, in pieces and whole", (uint64_t)klov_complete_as_announced(&t, f.len), complete);
     if (answers)

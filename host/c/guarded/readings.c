@@ -330,7 +330,7 @@ static bool inside_header(const struct modelled *m)
     return m->joined.len > 0 && m->joined.len < m->s.start;
 }
 
-struct answer model_strict(struct modelled *m)
+static struct answer model_strict(struct modelled *m)
 {
     uint64_t cut = m->joined.len < m->s.start ? 0 : (m->joined.len - m->s.start) % BLOCK;
     if (m->phase == DRAINING)
@@ -345,7 +345,7 @@ struct answer model_strict(struct modelled *m)
     return answered(0, 0);
 }
 
-struct answer model_lenient(struct modelled *m, uint64_t room, uint8_t *out, uint8_t *counts)
+static struct answer model_lenient(struct modelled *m, uint64_t room, uint8_t *out, uint8_t *counts)
 {
     if (m->phase == TAKING && inside_header(m))
         return owing(m, refused(3, m->s.start));
@@ -353,4 +353,13 @@ struct answer model_lenient(struct modelled *m, uint64_t room, uint8_t *out, uin
     walk_packets(&m->walk, m->joined, &m->s, packets, out, counts);
     m->phase = model_owed(m) > 0 ? DRAINING : ENDED;
     return with_packets(owing(m, answered(packets, 0)), out, counts);
+}
+
+struct answer model_end(struct modelled *m, uint64_t choice, uint64_t room, uint8_t *out, uint8_t *counts)
+{
+    if (choice == KLOV_STRICT)
+        return model_strict(m);
+    if (choice == KLOV_LENIENT)
+        return model_lenient(m, room, out, counts);
+    return owing(m, refused(22, 0));
 }

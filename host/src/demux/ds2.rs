@@ -263,7 +263,7 @@ impl Ds2SpStreamDemuxer {
     }
 
     /// Ends a recording that ends with a whole block and owes nothing, with no packets: what that says of it is
-    /// [`strict_end`](crate::Reader::strict_end)'s rule. Refusals 6, 3, 13, 14.
+    /// the rule of [`end`](crate::Reader::end). Refusals 6, 3, 13, 14.
     pub fn finish(&mut self) -> Result<Vec<Vec<u8>>> {
         self.fed.finish()
     }

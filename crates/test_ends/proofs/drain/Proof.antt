@@ -4,7 +4,7 @@ use Prim.Native.Nat.{_-_, _≤_}
 use mathlib.Core.Path.{_≡_}
 use lib.ListN.{length}
 use Rattle.reader.specs.State.{Reached}
-use Rattle.reader.proofs.Total.{reached-lenient}
+use Rattle.reader.proofs.Total.{reached-end}
 use borrow.Author.Needs.{needs}
 use Rattle.test_ends.proofs.drain.Statement.{statement}
 use Rattle.test_ends.proofs.drain.Tie as tie
@@ -21,8 +21,8 @@ loop-holds c = search needs
 owed-requires : tie.Need-owed-requires Inv-loop μ-loop
 owed-requires c κs = search needs
 
-lenient-end-requires : tie.Need-lenient-end-requires Inv-loop μ-loop
-lenient-end-requires c κs = search needs
+end-requires : tie.Need-end-requires Inv-loop μ-loop
+end-requires c κs = search needs
 
 count-in-requires : tie.Need-count-in-requires Inv-loop μ-loop
 count-in-requires c κs = search needs
@@ -34,7 +34,7 @@ loop-less : tie.Need-loop-less Inv-loop μ-loop
 loop-less c = search needs
 
 loop-again : tie.Need-loop-again Inv-loop μ-loop
-loop-again c = (search reached-lenient, search needs, search needs, search needs)
+loop-again c = (search reached-end, search needs, search needs, search needs)
 
 same-length : tie.Need-same-length Inv-loop μ-loop
 same-length c = search needs
@@ -62,7 +62,7 @@ drain-spec =
     μ-loop
     loop-holds
     owed-requires
-    lenient-end-requires
+    end-requires
     count-in-requires
     add-turns
     loop-less

@@ -1,31 +1,37 @@
--- `reader::Reader::lenient_end` meets its contract: what is owed comes out of the hold, and nothing else of the reader changes.
--- Assumes nothing.
+-- `reader::Reader::end` meets its contract: what is said is decided by the choice, as many of the packets owed come out of the hold as that is,
+-- and nothing else of the reader changes. Assumes nothing.
 use mathlib.Core.Path.{ap, _∙_}
 use denote.Ref.{now}
 use native.Mathlib.Omega.{arith}
 use Rattle.blocks.specs.Places.{wholeBlocks}
 use Rattle.reader.proofs.Ends.{reached-among, reached-kind}
-use Rattle.reader.proofs.Draining.{Wants, owing, lenient-steps}
+use Rattle.reader.proofs.Draining.{Wants, owing, end-most, end-steps}
 use borrow.Author.Needs.{needs}
-use Rattle.reader.proofs.Reader.lenient_end.Statement.{statement}
-use Rattle.reader.proofs.Reader.lenient_end.Tie as tie
+use Rattle.reader.proofs.Reader.end.Statement.{statement}
+use Rattle.reader.proofs.Reader.end.Tie as tie
 
 abbrev entry : tie.After-start-of → tie.Start
 entry c = c .before .before .before
 
+abbrev decided : tie.After-whole-blocks → tie.After-decide
+decided c = c .before .before
+
 abbrev started : tie.After-whole-blocks → tie.After-start-of
-started c = c .before .before .before .before
+started c = decided c .before .before .before
 
 abbrev counted : tie.After-write-owed-arg3 → tie.After-whole-blocks
 counted c = c .before .before .before .before .before .before
 
 wants : (c : tie.After-whole-blocks)
-    → Wants (entry (started c) .args .t1) (c .whole-blocks .result) (c .before .lesser .result) (now (entry (started c) .args .out))
-    (now (entry (started c) .args .counts))
+    → Wants (entry (started c) .args .t1) (entry (started c) .args .choice) (c .whole-blocks .result) (c .before .handed-by .result)
+    (decided c .decide .result .answer) (now (entry (started c) .args .out)) (now (entry (started c) .args .counts))
 wants c =
+    let a = started c .start-of .ensures .0 in
+    let d = decided c in
     record {
-      blocks-are = c .whole-blocks .ensures ∙ ap (wholeBlocks _) (started c .start-of .ensures .0);
-      some-are = omega (arith, c .before .lesser .ensures, c .before .before .room-for .ensures);
+      blocks-are = c .whole-blocks .ensures ∙ ap (wholeBlocks _) a;
+      answer-is = d .decide .ensures .0 ∙ cc (a, d .before .room-for .ensures);
+      some-are = c .before .handed-by .ensures;
     }
 
 start-of-requires : tie.Need-start-of-requires
@@ -40,28 +46,29 @@ sub-owed-2 c = omega (arith, reached-among (c .before .before .before .before .p
 room-for-requires : tie.Need-room-for-requires
 room-for-requires c κs = search needs
 
-lesser-requires : tie.Need-lesser-requires
-lesser-requires c κs = search needs
+decide-requires : tie.Need-decide-requires
+decide-requires c κs = search needs
+
+handed-by-requires : tie.Need-handed-by-requires
+handed-by-requires c κs = search needs
 
 whole-blocks-requires : tie.Need-whole-blocks-requires
 whole-blocks-requires c κs = search needs
 
 write-owed-requires : tie.Need-write-owed-requires
-write-owed-requires c κs = (search needs, owing (entry (started (counted c)) .pre) (wants (counted c)))
+write-owed-requires c κs =
+    let begun = entry (started (counted c)) in
+    let arrays = begun .good .0 .1 .1 .1 .1 .1 .1 .1 .1 .1 in
+    (search (needs, arrays), owing (begun .pre) (wants (counted c)))
 
 add-self : tie.Need-add-self
 add-self c =
     let w = counted (c .before .before .before .before .before) in
-    omega (arith, wants w .some-are, reached-among (entry (started w) .pre))
-
-header-done-requires : tie.Need-header-done-requires
-header-done-requires c κs = search needs
+    let known = entry (started w) .pre in
+    omega (arith, end-most known (wants w), reached-among known)
 
 end-phase-requires : tie.Need-end-phase-requires
 end-phase-requires c κs = search needs
-
-lenient-answer-requires : tie.Need-lenient-answer-requires
-lenient-answer-requires c κs = search needs
 
 same-length : tie.Need-same-length
 same-length c = search needs
@@ -71,28 +78,25 @@ same-length-2 c = search needs
 
 returns : tie.Need-returns
 returns c =
-    let h = c .before .before in
-    let o = h .before .before .before .before .before in
+    let o = c .before .before .before .before .before in
     let w = counted (o .before) in
     λ s is sound.
-    lenient-steps is sound (wants w) (started w .start-of .ensures .0) (o .write-owed .ensures) (h .header-done .ensures)
-    (c .before .end-phase .ensures) (c .lenient-answer .ensures)
+    end-steps is sound (wants w) (o .write-owed .ensures) (decided w .decide .ensures .1) (c .end-phase .ensures)
 
-pub lenient-end-spec : {M : Type 1} → statement M
-lenient-end-spec =
+pub end-spec : {M : Type 1} → statement M
+end-spec =
     tie.close
     (tie.spec
     start-of-requires
     sub-owed
     sub-owed-2
     room-for-requires
-    lesser-requires
+    decide-requires
+    handed-by-requires
     whole-blocks-requires
     write-owed-requires
     add-self
-    header-done-requires
     end-phase-requires
-    lenient-answer-requires
     same-length
     same-length-2
     returns)
