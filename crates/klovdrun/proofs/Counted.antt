@@ -19,9 +19,8 @@ use Rattle.reader.proofs.Laws.{at-state, steps-by, reached-by, owed-in-header}
 use Rattle.reader.proofs.Ends.{owed-is}
 use Rattle.reader.proofs.Total.{reached-opened}
 use Rattle.reader.proofs.Called.{any-calls-counted}
-use Rattle.numbers.specs.declared.Answer.{Answer}
 use Rattle.klovdrun.specs.declared.Opened.{Opened}
-use Rattle.klovdrun.specs.Wrapped.{stepTo, OpenCarries, Advances}
+use Rattle.klovdrun.specs.Wrapped.{stepTo, OpenCarries}
 use Rattle.klovdrun.specs.Hosted.{Told, nothing, taken, not-taken, an-end}
 use Rattle.klovdrun.proofs.Theorems.{open-tells, piece-tells, end-tells}
 use Rattle.klovdrun.proofs.Hosted.{told-answer, piece-refused, end-refused}
