@@ -15,7 +15,7 @@ const BY_STRICT: &str = "end, strict";
 const BY_LENIENT: &str = "end, lenient";
 const BY_NEITHER: &str = "end, neither";
 
-/// The strict end of a copy, and then the lenient end, at once or in parts.
+/// An end by a choice that is neither, the strict end of a copy, and then the lenient end, at once or in parts.
 pub fn all(run: &mut Run, dice: &mut Dice, score: &mut Score) {
     let owed = run.owed() as u64;
     neither(&mut run.reader, owed, dice, score);
@@ -47,23 +47,22 @@ fn strict_numbers(run: &Run) -> Numbers {
 
 /// The strict end of a copy: an error of the original's and a refusal with the same number, or an end.
 pub fn strict(run: &mut Run, dice: &mut Dice, score: &mut Score) {
-    const CALL: &str = BY_STRICT;
     let mut copy = run.reader.clone();
     let expected = strict_numbers(run);
     let seen = Seen::of(ample(2, dice), |out, counts| copy.end(STRICT, out, counts));
     let (numbers, untouched) = (seen.numbers, seen.untouched());
     if let Some(theirs) = &mut run.theirs {
         let theirs = theirs.finish().map_or_else(|(number, _)| (number, 0), |packets| (0, packets.len() as u64));
-        score.original(CALL, theirs, (numbers[0], numbers[2]));
+        score.original(BY_STRICT, theirs, (numbers[0], numbers[2]));
     }
     if expected == answered(0, 0) {
-        score.model(CALL, (expected, true), (numbers, untouched));
+        score.model(BY_STRICT, (expected, true), (numbers, untouched));
         if dice.percent(5) {
             ended(&mut copy, dice, score);
         }
     } else {
         let name = if expected[0] == 3 { Name::EndInHeader } else { Name::StrictEnd };
-        score.named(name, CALL, (expected, true, true), (numbers, untouched, copy.bytes() == run.reader.bytes()));
+        score.named(name, BY_STRICT, (expected, true, true), (numbers, untouched, copy.bytes() == run.reader.bytes()));
     }
 }
 
@@ -75,30 +74,28 @@ fn theirs(run: &mut Run) -> Option<Result<Vec<u8>, u64>> {
 
 /// The lenient end with ample room, beside the original's.
 fn lenient(run: &mut Run, dice: &mut Dice, score: &mut Score) {
-    const CALL: &str = BY_LENIENT;
     let before = inside_header(run).then(|| run.reader.clone());
     let (from, owed) = (run.handed(), run.owed());
     let seen = Seen::of(ample(owed, dice), |out, counts| run.reader.end(LENIENT, out, counts));
     match theirs(run) {
         Some(Ok(bytes)) => {
             let ours = (seen.numbers[0], 42 * seen.numbers[2], seen.out.holds(&bytes));
-            score.original(CALL, (0, bytes.len() as u64, true), ours);
+            score.original(BY_LENIENT, (0, bytes.len() as u64, true), ours);
         }
-        Some(Err(number)) => score.original(CALL, (number, 0, true), (seen.numbers[0], seen.numbers[2], seen.untouched())),
+        Some(Err(number)) => score.original(BY_LENIENT, (number, 0, true), (seen.numbers[0], seen.numbers[2], seen.untouched())),
         None => {}
     }
     if let Some(before) = before {
         let same = run.reader.bytes() == before.bytes();
-        score.named(Name::EndInHeader, CALL, (in_header(run.start), true, true), (seen.numbers, seen.untouched(), same));
+        score.named(Name::EndInHeader, BY_LENIENT, (in_header(run.start), true, true), (seen.numbers, seen.untouched(), same));
     } else {
-        run.hold(CALL, answered(owed as u64, 0), from..from + owed, &seen, score);
+        run.hold(BY_LENIENT, answered(owed as u64, 0), from..from + owed, &seen, score);
         run.gather(seen);
     }
 }
 
 /// The lenient end in small rooms, asked again until nothing is owed; the parts together are the original's.
 fn drain(run: &mut Run, dice: &mut Dice, score: &mut Score) {
-    const CALL: &str = BY_LENIENT;
     let (before, mut at) = (run.joined.len(), run.handed());
     let end = at + run.owed();
     while at < end {
@@ -111,25 +108,25 @@ fn drain(run: &mut Run, dice: &mut Dice, score: &mut Score) {
         if to < end {
             let bytes = seen.out.holds(&run.expected.bytes[42 * at..42 * to]);
             let counts = seen.counts.holds(&run.expected.counts[at..to]);
-            score.named(Name::DrainInParts, CALL, (numbers, true, true), (seen.numbers, bytes, counts));
+            score.named(Name::DrainInParts, BY_LENIENT, (numbers, true, true), (seen.numbers, bytes, counts));
             if dice.percent(30) {
                 draining(&mut run.reader, numbers[3], dice, score);
             }
         } else {
-            run.hold(CALL, numbers, at..to, &seen, score);
+            run.hold(BY_LENIENT, numbers, at..to, &seen, score);
         }
         run.gather(seen);
         at = to;
     }
     if let Some(theirs) = theirs(run) {
-        score.original(CALL, theirs, Ok(run.joined[before..].to_vec()));
+        score.original(BY_LENIENT, theirs, Ok(run.joined[before..].to_vec()));
     }
     // The first lenient end where nothing was owed, and one more where something was.
     let numbers = run.reader.end(LENIENT, &mut [], &mut []);
-    score.model(CALL, answered(0, 0), numbers);
+    score.model(BY_LENIENT, answered(0, 0), numbers);
 }
 
-/// A reader that drains takes no piece and no strict end, and says what it owes.
+/// A reader that drains takes no piece, no strict end and none by another choice, and says what it owes.
 fn draining(reader: &mut Reader, owed: u64, dice: &mut Dice, score: &mut Score) {
     let refusal = owing(refused(6, 0), owed);
     asked(reader, refusal, Name::DrainInParts, score);
@@ -153,7 +150,7 @@ fn neither(reader: &mut Reader, owed: u64, dice: &mut Dice, score: &mut Score) {
     score.named(Name::NoSuchEnd, BY_NEITHER, (owing(refused(22, 0), owed), true, true), (seen.numbers, seen.untouched(), same));
 }
 
-/// A reader that has ended takes no piece, and either end answers 0 packets.
+/// A reader that has ended takes no piece, and either end answers 0 packets; another choice is refused.
 fn ended(reader: &mut Reader, dice: &mut Dice, score: &mut Score) {
     let refusal = owing(refused(6, 0), 0);
     asked(reader, refusal, Name::AfterTheEnd, score);

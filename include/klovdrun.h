@@ -52,7 +52,7 @@
  * A recording with packets that begins swapped (DS2: by block 0's flag; DSS: by the first announcing block's) has one or more whose carried byte
  * is ours, a zero that nobody recorded: the tally counts them short, and no host calls it complete.
  *
- * What says nothing: an end on no input (it answers, and there is no recording), a strict end after a lenient one, any end on a reader that
+ * What says nothing: an end on no input (it answers, and there is no recording), a strict end after a lenient one, either end on a reader that
  * open refused, all of which answer 0; a reader opened for another kind, or one of kind 0 that is fed a `\x07ds2` recording: `klov_open` and
  * the reader look at no magic and no type.
  *

@@ -180,7 +180,8 @@ none-short-whole f {runs} none s =
 -- it is complete as announced.
 pub one-rule : (kind : ℕ) {opened : Opened} → OpenCarries kind opened → opened .answer .refusal ≡ 0 → {pieces : List (List ℕ)} {n : ℕ}
     {packets entries : List ℕ} {last : Reader} → Given (opened .reader) pieces n packets entries last
-    → {out out′ counts counts′ : List ℕ} {stored : Reader} {r : Answer} → Advances (EndCall last 0 out out′ counts counts′) stored r → Agrees kind (joined pieces) → {told : Tallied} → told ≡ tallyNumbers (tallied (joined pieces))
+    → {out out′ counts counts′ : List ℕ} {stored : Reader} {r : Answer} → Advances (EndCall last 0 out out′ counts counts′) stored r
+    → Agrees kind (joined pieces) → {told : Tallied} → told ≡ tallyNumbers (tallied (joined pieces))
     → (r .refusal ≡ 0 → BeginsUnswapped entries → AsAnnounced told (length (joined pieces)))
     × (AsAnnounced told (length (joined pieces)) → (r .refusal ≡ 0) × BeginsUnswapped entries)
 one-rule kind carries begun {pieces = pieces} given {stored = stored} {r = r} c agrees is =

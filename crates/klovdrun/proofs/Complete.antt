@@ -36,7 +36,8 @@ given-fed (no-end choice out out′ counts counts′ r c some after) known =
 -- refusal 0, all that was taken and came out is a complete recording, every read of it.
 pub told-complete : (kind : ℕ) {opened : Opened} → OpenCarries kind opened → opened .answer .refusal ≡ 0 → {pieces : List (List ℕ)} {n : ℕ}
     {packets entries : List ℕ} {last : Reader} → Given (opened .reader) pieces n packets entries last
-    → {out out′ counts counts′ : List ℕ} {stored : Reader} {r : Answer} → Advances (EndCall last 0 out out′ counts counts′) stored r → r .refusal ≡ 0 → CompleteRecording kind (joined pieces) n packets entries
+    → {out out′ counts counts′ : List ℕ} {stored : Reader} {r : Answer} → Advances (EndCall last 0 out out′ counts counts′) stored r → r .refusal ≡ 0
+    → CompleteRecording kind (joined pieces) n packets entries
 told-complete kind carries begun {pieces = pieces} given {stored = stored} c ended =
     let opens = carries .comes in
     let kind-is = opened-none kind _ (open-tells kind carries .zero begun .1) .0 in

@@ -2,7 +2,7 @@
 -- Assumes nothing.
 use Prim.Native.Nat.{ℕ, _+_, _*_}
 use mathlib.Core.Path.{_≡_, refl, sym, subst}
-use mathlib.Core.List.{List, [], _∷_, _++_}
+use mathlib.Core.List.{List, _++_}
 use mathlib.Core.Bool.{Bool, true, false, not, cond}
 use lib.ListN.{length, getD, drop}
 use lib.Dec.{eqb, leb, ltb}
@@ -184,7 +184,7 @@ end-numbered s choice room =
     (λ not-lenient. rw (not-strict, not-lenient) (refused-so (numbered 22 0) refl (λ of-record. (refl, refl)))))
 
 -- what holds of each of an end's three lists: none of its numbers is 0, and all of them are in the end's own
-of-each : (P : List ℕ → Type 0) → P (6 ∷ 3 ∷ 13 ∷ 14 ∷ []) → P (3 ∷ []) → P (22 ∷ []) → (choice : ℕ) → P (refusalsBy choice)
+of-each : (P : List ℕ → Type 0) → P (refusalsBy 0) → P (refusalsBy 1) → P (refusalsBy 2) → (choice : ℕ) → P (refusalsBy choice)
 of-each P one other neither choice =
     by-test (eqb choice strict) (λ e. rw e one)
     (λ not-strict. by-test (eqb choice lenient) (λ e. rw (not-strict, e) other) (λ not-lenient. rw (not-strict, not-lenient) neither))

@@ -1,5 +1,5 @@
--- The numbers that each export refuses by, as its definition decides them one after another; `klov_tally`'s are the tally's own
--- (`tallyRefusals`). Assumes nothing.
+-- The numbers that each export refuses by, as its definition decides them one after another; of `klov_end` they are those of either end and of any
+-- other choice, in the order that they are listed in. `klov_tally`'s are the tally's own (`tallyRefusals`). Assumes nothing.
 use Prim.Native.Nat.{ℕ}
 use mathlib.Core.List.{List, [], _∷_}
 use mathlib.Core.Bool.{cond}
@@ -46,7 +46,7 @@ pieceRefusals = 6 ∷ 2 ∷ 7 ∷ 8 ∷ []
 abbrev pub endRefusals : List ℕ
 endRefusals = 6 ∷ 22 ∷ 3 ∷ 13 ∷ 14 ∷ []
 
--- and of these the strict end's, the lenient end's, and what every other choice gets
+-- of these the strict end's, the lenient end's, and what every other choice gets
 abbrev pub refusalsBy : ℕ → List ℕ
 refusalsBy choice = cond (eqb choice strict) (6 ∷ 3 ∷ 13 ∷ 14 ∷ []) (cond (eqb choice lenient) (3 ∷ []) (22 ∷ []))
 

@@ -86,7 +86,7 @@ module _ (s : State) (piece : List ℕ) where
 
 -- why an end is refused
 strict-refused-by : {X : Type 0} (phase a long owed m n : ℕ) → strictBy phase a long owed ≡ refuses m n → (6 ≡ m → phase ≡ 1 → X) → (3 ≡ m → X)
-    → (13 ≡ m → (inBlock a long ≡ 0 → ⊥) → inBlock a long ≡ n → X) → (14 ≡ m → (owed ≡ 0 → ⊥) → owed ≡ n → X) → X
+    → (13 ≡ m → (inBlock a long ≡ 0 → ⊥) → inBlock a long ≡ n → X) → (14 ≡ m → inBlock a long ≡ 0 → (owed ≡ 0 → ⊥) → owed ≡ n → X) → X
 unfolding strictBy
 strict-refused-by phase a long owed m n e six three thirteen fourteen =
     by-demand (not (eqb phase 1)) e
@@ -96,7 +96,7 @@ strict-refused-by phase a long owed m n e six three thirteen fourteen =
     by-demand (headerFull a long) (rw takes at e)
     (λ full e.
     by-demand (eqb (inBlock a long) 0) e
-    (λ whole e. by-demand (eqb owed 0) e (λ none e. absurd (not-both (sym e))) (λ some is beside. fourteen is (eqb-false owed 0 some) beside))
+    (λ whole e. by-demand (eqb owed 0) e (λ none e. absurd (not-both (sym e))) (λ some is beside. fourteen is (eqb-true (inBlock a long) 0 whole) (eqb-false owed 0 some) beside))
     (λ cut is beside. thirteen is (eqb-false (inBlock a long) 0 cut) beside))
     (λ cut is beside. three is)))
     (λ drains is beside. six is (eqb-true phase 1 (not-false _ drains)))
@@ -129,10 +129,11 @@ module _ (s : State) (choice room n : ℕ) where
       end-refused-by s choice room 6 n e (λ is. absurd (omega (arith, is)))
       (λ strictly e.
       strict-refused-by (s .phase) _ _ (owed s) 6 n e (λ is draining. (strictly, draining)) (λ is. absurd (omega (arith, is)))
-      (λ is some inside. absurd (omega (arith, is))) (λ is some owes. absurd (omega (arith, is))))
+      (λ is some inside. absurd (omega (arith, is))) (λ is whole some owes. absurd (omega (arith, is))))
       (λ not-strict not-lenient is none. absurd (omega (arith, is)))
 
-  -- By 13 and 14 only a strict one: beside them are how many bytes there are of a block that is not whole, and the frames owed.
+  -- By 13 and 14 only a strict one: beside them are how many bytes there are of a block that is not whole, and, where every block is whole, the
+  -- frames owed.
   pub thirteen-tells : endSaid s choice room ≡ refuses 13 n
       → (choice ≡ strict) × (length (s .bytes) ≡ startOf (s .kind) + 512 * blocksIn (s .kind) (s .bytes) + n) × (0 < n) × (n < 512)
   thirteen-tells e =
@@ -141,26 +142,23 @@ module _ (s : State) (choice room n : ℕ) where
       strict-refused-by (s .phase) (startOf (s .kind)) (length (s .bytes)) (owed s) 13 n e (λ is draining. absurd (omega (arith, is)))
       (λ is. absurd (omega (arith, is)))
       (λ is some inside. (strictly, omega (arith, some, inside), omega (arith, some, inside), omega (arith, inside)))
-      (λ is some owes. absurd (omega (arith, is))))
+      (λ is whole some owes. absurd (omega (arith, is))))
       (λ not-strict not-lenient is none. absurd (omega (arith, is)))
 
-  pub fourteen-tells : endSaid s choice room ≡ refuses 14 n → (choice ≡ strict) × (n ≡ owed s) × (0 < n)
+  pub fourteen-tells : endSaid s choice room ≡ refuses 14 n
+      → (choice ≡ strict) × (inBlock (startOf (s .kind)) (length (s .bytes)) ≡ 0) × (n ≡ owed s) × (0 < n)
   fourteen-tells e =
       end-refused-by s choice room 14 n e (λ is. absurd (omega (arith, is)))
       (λ strictly e.
       strict-refused-by (s .phase) _ _ (owed s) 14 n e (λ is draining. absurd (omega (arith, is))) (λ is. absurd (omega (arith, is)))
-      (λ is some inside. absurd (omega (arith, is))) (λ is some owes. (strictly, sym owes, omega (arith, some, owes))))
+      (λ is some inside. absurd (omega (arith, is))) (λ is whole some owes. (strictly, whole, sym owes, omega (arith, some, owes))))
       (λ not-strict not-lenient is none. absurd (omega (arith, is)))
 
-  -- By 22 every choice is refused that is neither, in whatever phase, with 0 beside it, and no other is.
-  pub twenty-two-exactly : ((choice ≡ strict → ⊥) → (choice ≡ lenient → ⊥) → endSaid s choice room ≡ refuses 22 0)
-      × (endSaid s choice room ≡ refuses 22 n → (choice ≡ strict → ⊥) × (choice ≡ lenient → ⊥) × (n ≡ 0))
-  twenty-two-exactly = (
-    chosen-neither choice (s .phase) (startOf (s .kind)) (length (s .bytes)) (owed s) room,
-    (λ e.
-        end-refused-by s choice room 22 n e (λ is. absurd (omega (arith, is)))
-        (λ strictly e.
-        strict-refused-by (s .phase) _ _ (owed s) 22 n e (λ is draining. absurd (omega (arith, is))) (λ is. absurd (omega (arith, is)))
-        (λ is some inside. absurd (omega (arith, is))) (λ is some owes. absurd (omega (arith, is))))
-        (λ not-strict not-lenient is none. (not-strict, not-lenient, sym none))),
-  )
+  -- By 22 only a choice that is neither, with 0 beside it.
+  pub twenty-two-tells : endSaid s choice room ≡ refuses 22 n → (1 < choice) × (n ≡ 0)
+  twenty-two-tells e =
+      end-refused-by s choice room 22 n e (λ is. absurd (omega (arith, is)))
+      (λ strictly e.
+      strict-refused-by (s .phase) _ _ (owed s) 22 n e (λ is draining. absurd (omega (arith, is))) (λ is. absurd (omega (arith, is)))
+      (λ is some inside. absurd (omega (arith, is))) (λ is whole some owes. absurd (omega (arith, is))))
+      (λ not-strict not-lenient is none. (omega (arith, not-strict, not-lenient), sym none))

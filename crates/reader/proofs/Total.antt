@@ -103,14 +103,14 @@ pub ends-by-number : (s : State) (room : ℕ)
     × ((choice : ℕ) → 1 < choice → endSaid s choice room ≡ refuses 22 0)
 ends-by-number s room = (refl, refl, (λ choice other. chosen-neither choice _ _ _ (owed s) room (λ e. omega arith) (λ e. omega arith)))
 
-module _ (s : State) (piece : List ℕ) (room : ℕ) where
-  -- A strict end that is answered hands out nothing, nothing is owed, and the reader has ended; else its state is as it was.
-  pub strict-end-ends : Sound s → {n : ℕ} → endSaid s strict room ≡ answers n → (n ≡ 0) × (owed s ≡ 0)
-      × (afterEnd s (answers n) ≡ record { kind = s .kind; bytes = s .bytes; drained = s .drained; phase = 2 })
-  strict-end-ends sound {n} said =
-      let none = strict-none sound room said in
-      (none .0, none .1, after-strict s room n sound said)
+-- A strict end that is answered hands out nothing, nothing is owed, and the reader has ended; nothing else of its state has changed.
+pub strict-end-ends : (s : State) (room n : ℕ) → Sound s → endSaid s strict room ≡ answers n → (n ≡ 0) × (owed s ≡ 0)
+    × (afterEnd s (answers n) ≡ record { kind = s .kind; bytes = s .bytes; drained = s .drained; phase = 2 })
+strict-end-ends s room n sound said =
+    let none = strict-none sound room said in
+    (none .0, none .1, after-strict s room n sound said)
 
+module _ (s : State) (piece : List ℕ) (room : ℕ) where
   -- A reader that has ended answers 0 packets to either end, and refuses every piece by 6.
   pub ended-answers-none : Sound s → s .phase ≡ 2
       → (endSaid s strict room ≡ answers 0) × (endSaid s lenient room ≡ answers 0) × (pieceSaid s piece room ≡ refuses 6 0)

@@ -55,7 +55,7 @@ strictBy phase a long owed =
 unfoldable pub lenientBy : ℕ → ℕ → ℕ → ℕ → Said ℕ
 lenientBy a long owed room = demand (headerFull a long) 3 a (answers (min room owed))
 
--- an end, by which of the two is meant; there is no third, in no phase
+-- an end, by which of the two is meant; there is no third, whatever the phase
 abbrev pub strict : ℕ
 strict = 0
 

@@ -291,7 +291,7 @@ impl Reader {
         let some = handed_by(answer);
         let blocks = blocks::whole_blocks(taken, a);
         let waiting = self.waiting;
-        // what is to come, none of it where the end is strict or refused
+        // what is to come: nothing where the end is strict or refused
         let carry = hold_either::write_owed(
             dss,
             was,

@@ -64,6 +64,7 @@ fn end_differs(number: u64, cut: usize, whole: Whole, drained: ToTheEnd) -> usiz
     let expected = [
         whole[test_readings::ANNOUNCED],
         22,
+        0,
         strict_number(cut, owed),
         if cut != 0 { cut as u64 } else { owed as u64 },
         whole[test_readings::MANY],
@@ -73,13 +74,14 @@ fn end_differs(number: u64, cut: usize, whole: Whole, drained: ToTheEnd) -> usiz
     let got = [
         std::num::wrapping_add_u64(came[test_sums::PACKETS], owed as u64),
         neither[test_sums::NUMBER],
+        neither[test_sums::BESIDE],
         strict[test_sums::NUMBER],
         strict[test_sums::BESIDE],
         all[test_sums::PACKETS],
         all[test_sums::BYTES],
         all[test_sums::COUNTS],
     ];
-    test_tools::all_differ(b"pieces of file ", number, &expected, &got, 7)
+    test_tools::all_differ(b"pieces of file ", number, &expected, &got, 8)
 }
 
 // How many answers to a file cut in one way are not the whole reading's. Only a DS2 piece may be refused, and only by 7.

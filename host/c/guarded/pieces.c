@@ -63,7 +63,7 @@ static void expect_strict(struct modelled *m, klov_reader *r)
     expect_end(m, r, KLOV_STRICT, draw(3 * PACKET), draw(3));
 }
 
-/* A choice that is neither: a small one, one with only high bits beside the lenient end's, or any. */
+/* A choice that is neither: a small one, one whose low bits are an end's, or one of the largest. */
 static void expect_neither(struct modelled *m, klov_reader *r)
 {
     const uint64_t choices[] = {2, 2 + draw(254), KLOV_LENIENT + (UINT64_C(1) << (1 + draw(63))), UINT64_C(1) << (1 + draw(63)), UINT64_MAX - draw(3)};

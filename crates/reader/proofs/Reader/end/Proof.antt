@@ -1,8 +1,9 @@
 -- `reader::Reader::end` meets its contract: what is said is decided by the choice, as many of the packets owed come out of the hold as that is,
 -- and nothing else of the reader changes. Assumes nothing.
-use mathlib.Core.Path.{ap, _∙_}
+use mathlib.Core.Path.{_≡_, ap, _∙_}
 use denote.Ref.{now}
 use native.Mathlib.Omega.{arith}
+use lib.ListN.{length}
 use Rattle.blocks.specs.Places.{wholeBlocks}
 use Rattle.reader.proofs.Ends.{reached-among, reached-kind}
 use Rattle.reader.proofs.Draining.{Wants, owing, end-most, end-steps}
@@ -34,6 +35,10 @@ wants c =
       some-are = c .before .handed-by .ensures;
     }
 
+-- the arrays' lengths
+arrays : (s : tie.Start) → (length (s .args .t1 .hold) ≡ 12288) × (length (s .args .t1 .waiting) ≡ 66)
+arrays s = search needs
+
 start-of-requires : tie.Need-start-of-requires
 start-of-requires c κs = reached-kind (c .before .before .pre)
 
@@ -58,8 +63,8 @@ whole-blocks-requires c κs = search needs
 write-owed-requires : tie.Need-write-owed-requires
 write-owed-requires c κs =
     let begun = entry (started (counted c)) in
-    let arrays = begun .good .0 .1 .1 .1 .1 .1 .1 .1 .1 .1 in
-    (search (needs, arrays), owing (begun .pre) (wants (counted c)))
+    let long = arrays begun in
+    ((long .0, long .1), owing (begun .pre) (wants (counted c)))
 
 add-self : tie.Need-add-self
 add-self c =
