@@ -303,7 +303,7 @@ KLOV_MUST_USE klov_answer klov_piece(klov_reader *reader, const uint8_t *src, si
 /* An end, by the choice: KLOV_STRICT or KLOV_LENIENT. Refusals 6, 22, 3, 13, 14: of these the strict end has 6, 3, 13 and 14, the lenient end 3
  * alone, and every other choice has 22, whatever state the reader is in.
  *
- * The strict end hands out nothing and writes nothing, whatever room there is, so that it may be lent none. It ends the reader of a recording that
+ * The strict end hands out nothing and writes nothing, whatever room there is, so that both lengths may be 0. It ends the reader of a recording that
  * ends with a whole block and owes nothing. What its answer says of the recording is the rule above: on no input it answers too, and for a
  * recording that begins swapped. Once it has answered, before any lenient end, every packet that was handed out is whole but the swapped ones
  * before the first unswapped read, and all counts are full: the short ones are the leading counts of 40.

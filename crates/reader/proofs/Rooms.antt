@@ -16,7 +16,7 @@ use Rattle.refusals.specs.Said.{answers, refuses}
 use Rattle.refusals.proofs.Said.{not-both, by-demand}
 use Rattle.hold.proofs.Ready.{ready-within}
 use Rattle.reader.specs.State.{State, isKind, isDss, startOf, blocksIn, fitsBy, owed, headerFull, headerDone, Sound}
-use Rattle.reader.specs.Calls.{openSaid, brings, pieceSaid, inBlock, strictBy, lenientBy, strict, lenient, endSaid}
+use Rattle.reader.specs.Calls.{openSaid, brings, pieceSaid, inBlock, strictBy, lenientBy, strict, endSaid}
 use Rattle.reader.proofs.Laws.{bytes-joined}
 use Rattle.reader.proofs.Ends.{by-choice, chosen-strict, chosen-lenient, chosen-neither}
 
@@ -84,7 +84,7 @@ module _ (s : State) (piece : List ℕ) where
       let v = eight-says room n e in
       omega (arith, ample, v .3, most-brought sound bytes (v .0))
 
--- why an end is refused
+-- why a strict end is refused
 strict-refused-by : {X : Type 0} (phase a long owed m n : ℕ) → strictBy phase a long owed ≡ refuses m n → (6 ≡ m → phase ≡ 1 → X) → (3 ≡ m → X)
     → (13 ≡ m → (inBlock a long ≡ 0 → ⊥) → inBlock a long ≡ n → X) → (14 ≡ m → inBlock a long ≡ 0 → (owed ≡ 0 → ⊥) → owed ≡ n → X) → X
 unfolding strictBy
@@ -96,26 +96,12 @@ strict-refused-by phase a long owed m n e six three thirteen fourteen =
     by-demand (headerFull a long) (rw takes at e)
     (λ full e.
     by-demand (eqb (inBlock a long) 0) e
-    (λ whole e. by-demand (eqb owed 0) e (λ none e. absurd (not-both (sym e))) (λ some is beside. fourteen is (eqb-true (inBlock a long) 0 whole) (eqb-false owed 0 some) beside))
+    (λ whole e.
+    by-demand (eqb owed 0) e (λ none e. absurd (not-both (sym e)))
+    (λ some is beside. fourteen is (eqb-true (inBlock a long) 0 whole) (eqb-false owed 0 some) beside))
     (λ cut is beside. thirteen is (eqb-false (inBlock a long) 0 cut) beside))
     (λ cut is beside. three is)))
     (λ drains is beside. six is (eqb-true phase 1 (not-false _ drains)))
-
-end-refused-by : {X : Type 0} (s : State) (choice room m n : ℕ) → endSaid s choice room ≡ refuses m n → (3 ≡ m → X)
-    → (choice ≡ strict → strictBy (s .phase) (startOf (s .kind)) (length (s .bytes)) (owed s) ≡ refuses m n → X)
-    → ((choice ≡ strict → ⊥) → (choice ≡ lenient → ⊥) → 22 ≡ m → 0 ≡ n → X) → X
-unfolding lenientBy
-end-refused-by s choice room m n e three strictly neither =
-    let a = startOf (s .kind) in
-    let long = length (s .bytes) in
-    by-choice choice
-    (λ is. strictly is (sym (chosen-strict choice (s .phase) a long (owed s) room is) ∙ e))
-    (λ is.
-    by-demand (headerDone s) (sym (chosen-lenient choice (s .phase) a long (owed s) room is) ∙ e) (λ full e. absurd (not-both (sym e)))
-    (λ cut is beside. three is))
-    (λ not-strict not-lenient.
-    by-demand false {rest = answers 0} (sym (chosen-neither choice (s .phase) a long (owed s) room not-strict not-lenient) ∙ e) (λ never e. absurd (not-both (sym e)))
-    (λ so is beside. neither not-strict not-lenient is beside))
 
 -- The number beside 10 is the kind that there is not.
 pub ten-tells : (kind n : ℕ) → openSaid kind ≡ refuses 10 n → (isKind kind ≡ false) × (n ≡ kind)
@@ -123,42 +109,55 @@ unfolding openSaid
 ten-tells kind n e = by-demand (isKind kind) e (λ known e. absurd (not-both (sym e))) (λ unknown ten is. (unknown, sym is))
 
 module _ (s : State) (choice room n : ℕ) where
+  abbrev a : ℕ
+  a = startOf (s .kind)
+
+  abbrev long : ℕ
+  long = length (s .bytes)
+
+  -- why any end is, by a number m with n beside it
+  refused-by : {X : Type 0} (m : ℕ) → endSaid s choice room ≡ refuses m n → (choice ≡ strict → 6 ≡ m → s .phase ≡ 1 → X) → (3 ≡ m → X)
+      → (choice ≡ strict → 13 ≡ m → (inBlock a long ≡ 0 → ⊥) → inBlock a long ≡ n → X)
+      → (choice ≡ strict → 14 ≡ m → inBlock a long ≡ 0 → (owed s ≡ 0 → ⊥) → owed s ≡ n → X) → (1 < choice → 22 ≡ m → 0 ≡ n → X) → X
+  unfolding lenientBy
+  refused-by m e six three thirteen fourteen twenty-two =
+      by-choice choice
+      (λ is.
+      strict-refused-by (s .phase) a long (owed s) m n (sym (chosen-strict choice (s .phase) a long (owed s) room is) ∙ e) (six is) three (thirteen is)
+      (fourteen is))
+      (λ is.
+      by-demand (headerDone s) (sym (chosen-lenient choice (s .phase) a long (owed s) room is) ∙ e) (λ full e. absurd (not-both (sym e)))
+      (λ cut is beside. three is))
+      (λ not-strict not-lenient.
+      by-demand false {rest = answers 0} (sym (chosen-neither choice (s .phase) a long (owed s) room not-strict not-lenient) ∙ e)
+      (λ never e. absurd (not-both (sym e))) (λ so is beside. twenty-two (omega (arith, not-strict, not-lenient)) is beside))
+
   -- An end is refused by 6 only if it is a strict one while the reader drains.
   pub six-tells : endSaid s choice room ≡ refuses 6 n → (choice ≡ strict) × (s .phase ≡ 1)
   six-tells e =
-      end-refused-by s choice room 6 n e (λ is. absurd (omega (arith, is)))
-      (λ strictly e.
-      strict-refused-by (s .phase) _ _ (owed s) 6 n e (λ is draining. (strictly, draining)) (λ is. absurd (omega (arith, is)))
-      (λ is some inside. absurd (omega (arith, is))) (λ is whole some owes. absurd (omega (arith, is))))
-      (λ not-strict not-lenient is none. absurd (omega (arith, is)))
+      refused-by 6 e (λ strictly is draining. (strictly, draining)) (λ is. absurd (omega (arith, is)))
+      (λ strictly is some inside. absurd (omega (arith, is))) (λ strictly is whole some owes. absurd (omega (arith, is)))
+      (λ other is none. absurd (omega (arith, is)))
 
   -- By 13 and 14 only a strict one: beside them are how many bytes there are of a block that is not whole, and, where every block is whole, the
   -- frames owed.
   pub thirteen-tells : endSaid s choice room ≡ refuses 13 n
       → (choice ≡ strict) × (length (s .bytes) ≡ startOf (s .kind) + 512 * blocksIn (s .kind) (s .bytes) + n) × (0 < n) × (n < 512)
   thirteen-tells e =
-      end-refused-by s choice room 13 n e (λ is. absurd (omega (arith, is)))
-      (λ strictly e.
-      strict-refused-by (s .phase) (startOf (s .kind)) (length (s .bytes)) (owed s) 13 n e (λ is draining. absurd (omega (arith, is)))
-      (λ is. absurd (omega (arith, is)))
-      (λ is some inside. (strictly, omega (arith, some, inside), omega (arith, some, inside), omega (arith, inside)))
-      (λ is whole some owes. absurd (omega (arith, is))))
-      (λ not-strict not-lenient is none. absurd (omega (arith, is)))
+      refused-by 13 e (λ strictly is draining. absurd (omega (arith, is))) (λ is. absurd (omega (arith, is)))
+      (λ strictly is some inside. (strictly, omega (arith, some, inside), omega (arith, some, inside), omega (arith, inside)))
+      (λ strictly is whole some owes. absurd (omega (arith, is))) (λ other is none. absurd (omega (arith, is)))
 
   pub fourteen-tells : endSaid s choice room ≡ refuses 14 n
       → (choice ≡ strict) × (inBlock (startOf (s .kind)) (length (s .bytes)) ≡ 0) × (n ≡ owed s) × (0 < n)
   fourteen-tells e =
-      end-refused-by s choice room 14 n e (λ is. absurd (omega (arith, is)))
-      (λ strictly e.
-      strict-refused-by (s .phase) _ _ (owed s) 14 n e (λ is draining. absurd (omega (arith, is))) (λ is. absurd (omega (arith, is)))
-      (λ is some inside. absurd (omega (arith, is))) (λ is whole some owes. (strictly, whole, sym owes, omega (arith, some, owes))))
-      (λ not-strict not-lenient is none. absurd (omega (arith, is)))
+      refused-by 14 e (λ strictly is draining. absurd (omega (arith, is))) (λ is. absurd (omega (arith, is)))
+      (λ strictly is some inside. absurd (omega (arith, is)))
+      (λ strictly is whole some owes. (strictly, whole, sym owes, omega (arith, some, owes))) (λ other is none. absurd (omega (arith, is)))
 
   -- By 22 only a choice that is neither, with 0 beside it.
   pub twenty-two-tells : endSaid s choice room ≡ refuses 22 n → (1 < choice) × (n ≡ 0)
   twenty-two-tells e =
-      end-refused-by s choice room 22 n e (λ is. absurd (omega (arith, is)))
-      (λ strictly e.
-      strict-refused-by (s .phase) _ _ (owed s) 22 n e (λ is draining. absurd (omega (arith, is))) (λ is. absurd (omega (arith, is)))
-      (λ is some inside. absurd (omega (arith, is))) (λ is whole some owes. absurd (omega (arith, is))))
-      (λ not-strict not-lenient is none. (omega (arith, not-strict, not-lenient), sym none))
+      refused-by 22 e (λ strictly is draining. absurd (omega (arith, is))) (λ is. absurd (omega (arith, is)))
+      (λ strictly is some inside. absurd (omega (arith, is))) (λ strictly is whole some owes. absurd (omega (arith, is)))
+      (λ other is none. (other, sym none))
