@@ -293,7 +293,7 @@ def noise_bytes(seed, count):
 def usual_start(magic):
     return BLOCK * magic[0] if magic in DSS else 0x1000 if magic == DS2_SEVEN else 0x600
 
-# choices of an end that are neither 0 nor 1; of some the low bytes are
+# choices of an end that are neither 0 nor 1; of some the lowest bytes are
 NEITHER = 2, 3, 10, 255, 256, 257, 65536, 65537, 1 << 32, (1 << 32) + 1, 1 << 56
 
 class Case:
