@@ -1,5 +1,6 @@
 // Blocks and places: a file's blocks after the audio start, their headers' fields, and the payload stream.
 // Every function here is for the crates above. Rests on tables.
+#![tactic(auto)]
 ghost use Rattle.std.specs.Prelude.{◌≡◌, ◌+◌, ◌*◌, ◌<◌, ◌≤◌, ◌^◌, length, get_or};
 ghost use Rattle.blocks.specs.Places.{whole_blocks, Whole, file_of, stream_at, payload_of};
 ghost use Rattle.blocks.specs.Headers.{header_byte, swap_of, count_of, announced_in};
@@ -14,11 +15,11 @@ pub const PAYLOAD: usize = 506;
 pub const LIMIT: usize = 268_435_456;
 
 // A place in the file.
-#[derive(Drop)]
+#[derive(Clone, Copy)]
 pub struct FilePlace(pub usize);
 
 // A place in the payload stream.
-#[derive(Drop)]
+#[derive(Clone, Copy)]
 pub struct StreamPlace(pub usize);
 
 // The one way from the stream to the file.

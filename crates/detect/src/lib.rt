@@ -1,5 +1,6 @@
 // Detection: what a file is by its magic and its type.
 // Rests on blocks, for places and headers, on magic and on tables.
+#![tactic(auto)]
 ghost use Rattle.std.specs.Prelude.{◌≡◌};
 ghost use Rattle.detect.specs.Kinds.{format_of};
 ghost use Rattle.detect.specs.Format.{format_by, detected};
@@ -13,7 +14,7 @@ pub mod ds2;
 const TYPE_PLACE: usize = 0x604;
 
 // What a DS2 file's type says of its reading.
-#[derive(Drop)]
+#[derive(Clone, Copy)]
 pub enum Kind {
     Sp,
     Qp,
@@ -21,7 +22,7 @@ pub enum Kind {
 }
 
 // What detect_format reports.
-#[derive(Drop)]
+#[derive(Clone, Copy)]
 pub enum AudioFormat {
     None,
     DssSp,

@@ -1,5 +1,6 @@
 // What an index has of a DSS recording: an entry for each announcing block, its twelve bytes, and whether they stand in an index. Every public
 // function here is for the crates above. Rests on sp, for a block's run, on whole, blocks and tables.
+#![tactic(auto)]
 ghost use Rattle.std.specs.Prelude.{◌≡◌, ◌+◌, ◌%◌, ◌≤◌, ◌<◌, ◌^◌, length, take, drop};
 ghost use Rattle.blocks.specs.Places.{Whole};
 ghost use Rattle.blocks.specs.Headers.{announced_in};
@@ -17,7 +18,7 @@ use whole::Recording;
 pub const ENTRY: usize = 12;
 
 // An entry: the number of an announcing block, the number of its first packet, and where its reads start in the payload stream.
-#[derive(Drop)]
+#[derive(Clone, Copy)]
 pub struct Entry {
     pub number: usize,
     pub first: usize,
@@ -25,7 +26,7 @@ pub struct Entry {
 }
 
 // How many entries an index has, and how many packets its recording.
-#[derive(Drop)]
+#[derive(Clone, Copy)]
 pub struct Totals {
     pub entries: usize,
     pub packets: usize,

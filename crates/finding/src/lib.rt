@@ -1,6 +1,7 @@
 // The entry for a packet's number, by an index that is held to its file first; and the packet itself, its carried byte included, into lent memory.
 // Rests on index, which holds an index to its file, on entries, on whole, on packets, for where a read lies, on sp, which makes the read, on
 // refusals and blocks.
+#![tactic(auto)]
 ghost use Rattle.std.specs.Prelude.{◌≡◌, ◌+◌, ◌-◌, ◌≤◌, ◌<◌, ◌^◌, length};
 ghost use Rattle.blocks.specs.Places.{Whole};
 ghost use Rattle.refusals.specs.Said.{answers};
@@ -25,7 +26,7 @@ use sp::{Demuxed, Run};
 use whole::{Admission, Recording};
 
 // The entry that was found, or why the call refuses.
-#[derive(Drop)]
+#[derive(Clone, Copy)]
 pub enum Found {
     At(Entry),
     Refused(Refusal),

@@ -1,5 +1,6 @@
 // Frames of the payload stream: where a block's frames start, the frames of a segment, and a frame's bytes on request.
 // Rests on whole, which says whether the file is taken, and on refusals, blocks and tables.
+#![tactic(auto)]
 ghost use Rattle.std.specs.Prelude.{◌≡◌, ◌+◌, ◌*◌, ◌<◌, ◌≤◌, ◌^◌, false, length};
 ghost use Rattle.tables.specs.Lent.{Leaves};
 ghost use Rattle.blocks.specs.Places.{Whole, file_of};
@@ -22,14 +23,14 @@ pub const FRAME: usize = 56;
 const LAST: usize = 18_446_744_073_709_551_615;
 
 // Where a frame starts, and how many bytes it has: none where it is missing.
-#[derive(Drop)]
+#[derive(Clone, Copy)]
 pub struct Found {
     pub place: StreamPlace,
     pub size: usize,
 }
 
 // Where a frame that can be fetched stands: in the file from that place on, or at the scratch's start.
-#[derive(Drop)]
+#[derive(Clone, Copy)]
 pub enum Fetched {
     InFile(FilePlace),
     InScratch,

@@ -1,6 +1,7 @@
 // What is held of a recording between its blocks: packets from the hold, which has the stream's bytes from a base on, or from a payload
 // where it stands. Rests on packets, for a packet from bytes that lie together, on sp, for runs and where a packet is put, on blocks and
 // on tables. What is public here is for the crates above.
+#![tactic(auto)]
 ghost use Rattle.std.specs.Prelude.{◌≡◌, cond, ℕ, ◌+◌, ◌*◌, ◌≤◌, ◌<◌, ◌^◌, eqb, length, get_or};
 ghost use Rattle.tables.specs.Table.{table};
 ghost use Rattle.packets.specs.Packet.{read_size, IsPacket};
@@ -26,7 +27,7 @@ pub mod waiting;
 pub const HOLD: usize = 12288;
 
 // The numbers beside the hold: frames announced, packets ready, where the hold begins, the first block's byte 0, what is carried.
-#[derive(Drop)]
+#[derive(Clone, Copy)]
 pub struct Standing {
     pub announced: usize,
     pub ready: usize,
@@ -36,7 +37,7 @@ pub struct Standing {
 }
 
 // Blocks that leave, and the packets that they have.
-#[derive(Drop)]
+#[derive(Clone, Copy)]
 pub struct Released {
     pub blocks: usize,
     pub packets: usize,

@@ -1,6 +1,7 @@
 // A block more of a DS2 recording, whose packets are those of one walk, and packets of the walk from any one on, for those that are owed.
 // Rests on hold, for what is held and packets from it, on packets and sp, for reads and runs, on blocks and on tables. What is public here
 // is for the crates above.
+#![tactic(auto)]
 ghost use Rattle.std.specs.Prelude.{◌≡◌, false, List, ℕ, length};
 ghost use Rattle.hold.specs.Ready.{reading_in};
 ghost use Rattle.hold.specs.Inner.{PartWritten, Next, Added, Walking};

@@ -1,5 +1,6 @@
 // The index beside a DSS recording: built from its file, and read back with the file lent, which holds all of it to the recording.
 // Rests on entries, for what an index has of a recording, on whole, which says whether the file is taken, and on refusals.
+#![tactic(auto)]
 ghost use Rattle.std.specs.Prelude.{◌≡◌, ◌≤◌, ◌^◌, length};
 ghost use Rattle.refusals.specs.Said.{answers};
 ghost use Rattle.whole.specs.Admissions.{Sound};
@@ -19,21 +20,21 @@ pub const FRONT: usize = 5;
 const VERSION: u8 = 1;
 
 // How many bytes an index has, and how many entries.
-#[derive(Drop)]
+#[derive(Clone, Copy)]
 pub struct Size {
     pub bytes: usize,
     pub entries: usize,
 }
 
 // The size of the index that was built, or why the call refuses.
-#[derive(Drop)]
+#[derive(Clone, Copy)]
 pub enum Built {
     Index(Size),
     Refused(Refusal),
 }
 
 // The totals of an index that is its file's, or why the call refuses.
-#[derive(Drop)]
+#[derive(Clone, Copy)]
 pub enum Read {
     Accepted(Totals),
     Refused(Refusal),

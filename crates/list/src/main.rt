@@ -1,5 +1,6 @@
 // Prints one line for the dictation file on standard input: its tally, or why it is refused. It only reads and writes; the line is
 // listing's. Rests on listing, io and libc.
+#![tactic(auto)]
 use libc::{STDERR_FILENO, STDIN_FILENO, STDOUT_FILENO};
 
 // Whether standard input is at its end: a read that stopped short does not say why it did, so one more is made.

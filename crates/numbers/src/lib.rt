@@ -1,5 +1,6 @@
 // The numbers that an answer of the crates below is handed over as, for C. Everything public here is for the crates above. Rests on the
 // enums of those crates.
+#![tactic(auto)]
 ghost use Rattle.std.specs.Prelude.{◌≡◌};
 ghost use Rattle.refusals.specs.Said.{answers, refusal};
 ghost use Rattle.whole.specs.Payload.{payload_says};
@@ -27,7 +28,7 @@ use writing::Written;
 // What most exports answer: a refusal's number, or 0, and the number beside it; two numbers that the export names; and of a record that cannot
 // be read its size, and how many bytes are absent, which are 0 in every other answer.
 #[repr(C)]
-#[derive(Drop)]
+#[derive(Clone, Copy)]
 pub struct Answer {
     pub refusal: u64,
     pub beside: u64,
@@ -39,7 +40,7 @@ pub struct Answer {
 
 // The tally's eleven numbers, of which the last two are as in an answer. `short` is a word of C's own, so it is `short_count`.
 #[repr(C)]
-#[derive(Drop)]
+#[derive(Clone, Copy)]
 pub struct Tallied {
     pub refusal: u64,
     pub beside: u64,
@@ -56,7 +57,7 @@ pub struct Tallied {
 
 // An entry of an index in seven numbers, of which the first two and the last two are as in an answer.
 #[repr(C)]
-#[derive(Drop)]
+#[derive(Clone, Copy)]
 pub struct Entry {
     pub refusal: u64,
     pub beside: u64,

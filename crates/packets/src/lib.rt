@@ -1,5 +1,6 @@
 // SP packets: one read of the payload stream gives one packet. Every function here is for the crates above.
 // Rests on blocks, for places and the stream, and on tables.
+#![tactic(auto)]
 ghost use Rattle.std.specs.Prelude.{◌≡◌, ◌+◌, ◌*◌, ◌≤◌, ◌<◌, ◌^◌, ◌%◌, true, false, cond, length, eqb};
 ghost use Rattle.tables.specs.Table.{table};
 ghost use Rattle.blocks.specs.Places.{Whole, stream_at};
@@ -17,7 +18,7 @@ pub const PACKET: usize = 42;
 const LAST_INSIDE: usize = 464;
 
 // A packet, with what the next read needs.
-#[derive(Drop)]
+#[derive(Clone, Copy)]
 pub struct Packet {
     pub bytes: [u8; 42],
     // How many bytes of its read came from the file.

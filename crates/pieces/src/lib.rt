@@ -1,6 +1,7 @@
 // A piece of a recording that is read in pieces: whether it is accepted, decided with nothing written, and then its blocks, one after
 // another. Everything public here is for the crates above. Rests on hold, for what is held, on hold_either, for a block more, on sp,
 // for the answer's form, on packets, refusals, blocks and tables.
+#![tactic(auto)]
 ghost use Rattle.std.specs.Prelude.{◌≡◌, true, false, ◌-◌};
 ghost use Rattle.refusals.specs.Said.{answers, refusal};
 ghost use Rattle.sp.specs.Outcome.{demuxed_says};
@@ -25,7 +26,7 @@ pub fn past(a: usize, b: usize) -> usize
 }
 
 // What was found in a piece's blocks: whether all fit, what all blocks announce, the first block's byte 0.
-#[derive(Drop)]
+#[derive(Clone, Copy)]
 struct Surveyed {
     fits: bool,
     announced: usize,
@@ -33,7 +34,7 @@ struct Surveyed {
 }
 
 // What is answered, and whether that accepts the call.
-#[derive(Drop)]
+#[derive(Clone, Copy)]
 pub struct Verdict {
     pub accepted: bool,
     pub answer: Demuxed,

@@ -1,6 +1,7 @@
 // The whole reading of QP files: the segments of a DS2 file of type 6 or 8 to 255, into a lent table. Where the table
 // may be too small the blocks are walked twice, first to count and then to write, so that a refused call has written nothing.
 // Rests on whole, which says whether the file is taken, on frames, for where a block starts, on refusals, blocks and tables.
+#![tactic(auto)]
 ghost use Rattle.std.specs.Prelude.{◌≡◌, ℕ, ◌+◌, ◌*◌, ◌<◌, ◌≤◌, ◌^◌, cond, length, ltb};
 ghost use Rattle.tables.specs.Inner.{Puts};
 ghost use Rattle.blocks.specs.Headers.{Bytes};
@@ -21,7 +22,7 @@ pub const ENTRY: usize = 4;
 
 // A segment: where it starts, how many bytes it has, how many frames are announced, and 1 if the decoder is to be reset before it. Public
 // for the definitions above.
-#[derive(Drop)]
+#[derive(Clone, Copy)]
 pub struct Segment {
     pub start: StreamPlace,
     pub long: usize,
@@ -31,7 +32,7 @@ pub struct Segment {
 
 // The open segment, in numbers: where it starts, the read place, its frame total; and how many segments were kept before it. Public for
 // the crates above.
-#[derive(Drop)]
+#[derive(Clone, Copy)]
 pub struct Gathering {
     pub start: StreamPlace,
     pub place: StreamPlace,
@@ -40,14 +41,14 @@ pub struct Gathering {
 }
 
 // How many segments a file has, and how many frames it announces.
-#[derive(Drop)]
+#[derive(Clone, Copy)]
 pub struct Totals {
     pub segments: usize,
     pub announced: usize,
 }
 
 // The totals of what was handed out, or why the call refuses.
-#[derive(Drop)]
+#[derive(Clone, Copy)]
 pub enum Demuxed {
     Segments(Totals),
     Refused(Refusal),

@@ -1,6 +1,7 @@
 // The whole reading of QP7 files: the records and segments of a DS2 file of type 7, into two lent tables. The walk is made twice, first
 // to count and then to write, so that a refused call has written nothing.
 // Rests on whole, which says whether the file is taken, on frames, for where a block starts, on refusals, blocks and tables.
+#![tactic(auto)]
 ghost use Rattle.std.specs.Prelude.{◌≡◌, ◌+◌, ◌*◌, ◌<◌, ◌≤◌, ◌^◌, max, [], ◌∷◌, length};
 ghost use Rattle.tables.specs.Inner.{Puts};
 ghost use Rattle.refusals.specs.Said.{answers};
@@ -24,7 +25,7 @@ const LONG: usize = 56;
 pub const ENTRY: usize = 3;
 
 // A record's size, or why it cannot be read.
-#[derive(Drop)]
+#[derive(Clone, Copy)]
 enum Record {
     Is(usize),
     Refused(Refusal),
@@ -32,7 +33,7 @@ enum Record {
 
 // Where the walk stands: the read place, how many records were read and how many segments closed, and the number of the open segment's
 // first record. Public for the crates above.
-#[derive(Drop)]
+#[derive(Clone, Copy)]
 pub struct Walk {
     pub place: StreamPlace,
     pub records: usize,
@@ -41,14 +42,14 @@ pub struct Walk {
 }
 
 // Where the walk stands after some records or blocks, or why it ended. Public for the crates above.
-#[derive(Drop)]
+#[derive(Clone, Copy)]
 pub enum Walked {
     At(Walk),
     Refused(Refusal),
 }
 
 // A segment: the number of its first record, how many it has, and 1 if the decoder is to be reset before it.
-#[derive(Drop)]
+#[derive(Clone, Copy)]
 struct Segment {
     first: usize,
     records: usize,
@@ -56,14 +57,14 @@ struct Segment {
 }
 
 // How many records and segments: those of a file, or those to be written.
-#[derive(Drop)]
+#[derive(Clone, Copy)]
 pub struct Totals {
     pub records: usize,
     pub segments: usize,
 }
 
 // How many records and segments were handed out, or why the call refuses.
-#[derive(Drop)]
+#[derive(Clone, Copy)]
 pub enum Demuxed {
     Tables(Totals),
     Refused(Refusal),

@@ -1,6 +1,7 @@
 // Reading in pieces: a Reader takes an SP recording's bytes in any cut, hands out packets as they become ready, and ends strictly or
 // leniently. What `Ds2SpStreamDemuxer` and `DssSpStreamDemuxer` do. Rests on pieces, for a piece, on hold and hold_either, for packets that
 // are owed, on sp, for the answer's form, on packets, refusals, blocks and tables.
+#![tactic(auto)]
 ghost use Rattle.std.specs.Prelude.{◌≡◌, true, cond, ◌+◌, ◌-◌, ◌/◌, ◌%◌, ◌≤◌, ◌<◌, ◌^◌, min, eqb, leb};
 ghost use Rattle.refusals.specs.Said.{answers, demand};
 ghost use Rattle.sp.specs.Outcome.{demuxed_says};
@@ -26,7 +27,7 @@ pub const LENIENT: u64 = 1;
 // that are ready and those drained beyond them, where the hold begins in the payload stream, the first block's byte 0, the carried byte;
 // the hold, the bytes of a block not yet whole, and of DSS blocks that wait, at most 22, three header bytes each.
 #[repr(C)]
-#[derive(Drop)]
+#[derive(Clone, Copy)]
 pub struct Reader {
     kind: u64,
     phase: u64,
@@ -43,7 +44,7 @@ pub struct Reader {
 }
 
 // A call's answer, and the reader to go on with.
-#[derive(Drop)]
+#[derive(Clone, Copy)]
 pub struct Step {
     pub answer: Demuxed,
     pub reader: Reader,

@@ -1,12 +1,13 @@
 // Refusal numbers: why a call refuses, as a number and the number beside it, and of a QP7 record that cannot be read its size and how many
 // bytes are absent. One type for every call of the project, and a function for each cause. Every public function here is for the crates above.
 // Rests on blocks, for the places.
+#![tactic(auto)]
 ghost use Rattle.std.specs.Prelude.{◌≡◌};
 ghost use Rattle.refusals.specs.Numbers.{lacking, numbered};
 
 use blocks::{FilePlace, StreamPlace};
 
-#[derive(Drop)]
+#[derive(Clone, Copy)]
 pub struct Refusal {
     pub number: u64,
     pub beside: u64,

@@ -1,5 +1,6 @@
 // Whole SP reading: a DSS file's packets, or a DS2 SP file's, into lent memory. The two differ only in their list of reads.
 // Rests on whole, which says whether the file is taken, on packets, which gives a packet for a read, on refusals, blocks and tables.
+#![tactic(auto)]
 ghost use Rattle.std.specs.Prelude.{◌≡◌, ◌+◌, ◌*◌, ◌/◌, ◌≤◌, ◌<◌, ◌^◌, min, cond, length, get_or, leb};
 ghost use Rattle.tables.specs.Lent.{Leaves};
 ghost use Rattle.blocks.specs.Places.{Whole, stream_at};
@@ -20,7 +21,7 @@ use whole::{Admission, Recording};
 
 // Reads that follow one another: from a start, by a parity to begin with, so many packets. Public for the definitions and for the
 // crates above.
-#[derive(Drop)]
+#[derive(Clone, Copy)]
 pub struct Run {
     pub start: StreamPlace,
     pub swap: bool,
@@ -28,7 +29,7 @@ pub struct Run {
 }
 
 // How many packets were handed out, or why the call refuses.
-#[derive(Drop)]
+#[derive(Clone, Copy)]
 pub enum Demuxed {
     Packets(usize),
     Refused(Refusal),

@@ -1,5 +1,7 @@
 // For the crates above: a byte widened, the lesser and the greater of two numbers, bytes copied. What a call leaves in a lent buffer is
 // defined in specs/, and its laws are in proofs/. Nothing here knows the format. Rests on nothing.
+#![tactic(auto)]
+
 ghost use Rattle.std.specs.Prelude.{◌≡◌, ◌+◌, ◌≤◌, ◌<◌, min, max, length, get_or};
 ghost use Rattle.tables.specs.Lent.{Leaves};
 

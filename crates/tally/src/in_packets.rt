@@ -16,7 +16,7 @@ use sp::Run;
 use whole::Recording;
 
 // What a run adds, and whether what is carried past it came from the file.
-#[derive(Drop)]
+#[derive(Clone, Copy)]
 struct Added {
     out: HandedOut,
     sourced: bool,

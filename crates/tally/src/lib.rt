@@ -1,5 +1,6 @@
 // The tally of any file: what its whole reading would hand out, in numbers, with no packet, segment or record stored. SP packets are
 // counted a run at a time, with no walk over them. Rests on the whole readings and on all that they rest on.
+#![tactic(auto)]
 ghost use Rattle.std.specs.Prelude.{◌≡◌, ◌+◌, ◌-◌, ◌<◌, ◌^◌};
 ghost use Rattle.whole.specs.Admissions.{Sound, announced_by};
 ghost use Rattle.tally.specs.Inner.{together};
@@ -20,7 +21,7 @@ mod in_frames;
 mod in_records;
 
 // What a file is: its family and how it is read.
-#[derive(Drop)]
+#[derive(Clone, Copy)]
 pub enum FileKind {
     DssSp,
     Ds2Sp,
@@ -30,7 +31,7 @@ pub enum FileKind {
 
 // How many packets, frames or records are handed out, how many of them are short, and how many bytes they have from the file. A DSS file
 // at the limit has more of these than 32 bits hold.
-#[derive(Drop)]
+#[derive(Clone, Copy)]
 pub struct HandedOut {
     pub many: usize,
     pub short: usize,
@@ -38,7 +39,7 @@ pub struct HandedOut {
 }
 
 // A tally.
-#[derive(Drop)]
+#[derive(Clone, Copy)]
 pub struct Figures {
     pub kind: FileKind,
     pub start: FilePlace,
@@ -48,14 +49,14 @@ pub struct Figures {
 }
 
 // The tally, or why the whole reading refuses.
-#[derive(Drop)]
+#[derive(Clone, Copy)]
 pub enum Tallied {
     Counted(Figures),
     Refused(Refusal),
 }
 
 // What is handed out, or why it cannot be told.
-#[derive(Drop)]
+#[derive(Clone, Copy)]
 enum Counts {
     Are(HandedOut),
     Untold(Refusal),

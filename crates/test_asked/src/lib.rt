@@ -1,5 +1,6 @@
 // Detection, the whole calls and the requests, asked about one file, and what they answer, held to the list. All of it is for the crates
 // above. Rests on those calls, on test_expected for the list, and on test_fetched, test_sums, test_tools and tables.
+#![tactic(auto)]
 use blocks::{FilePlace, StreamPlace};
 use detect::AudioFormat;
 use frames::Fetched;

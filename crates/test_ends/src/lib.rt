@@ -1,5 +1,6 @@
 // A reader ended strictly and leniently, and by a choice that is neither, in numbers. All of it is for the crates above. Rests on reader and
 // test_sums.
+#![tactic(auto)]
 ghost use Rattle.reader.specs.State.{Reached};
 
 use reader::{LENIENT, Reader, STRICT};
@@ -7,7 +8,7 @@ use test_sums::{Sums, count_in, none};
 
 // The lenient end: what it brings and the frames owed after it; what an empty piece gets then, an end by a choice that is neither, and a strict
 // end; and what the lenient end brings that is asked again, with the frames owed after that.
-#[derive(Drop)]
+#[derive(Clone, Copy)]
 pub struct LenientEnd {
     pub came: Sums,
     pub owed: usize,
@@ -20,7 +21,7 @@ pub struct LenientEnd {
 
 // What an end by a choice that is neither gets; the frames owed by the reader that it hands back; what the strict end gets, and an empty piece
 // after it; then the lenient end.
-#[derive(Drop)]
+#[derive(Clone, Copy)]
 pub struct Ended {
     pub neither: Sums,
     pub owed: usize,
@@ -30,7 +31,7 @@ pub struct Ended {
 }
 
 // What an end brings, and the reader after it.
-#[derive(Drop)]
+#[derive(Clone, Copy)]
 struct After {
     came: Sums,
     reader: Reader,
@@ -38,7 +39,7 @@ struct After {
 
 // What an end by a choice that is neither gets; the frames owed by the reader that it hands back; what the strict end of that one gets, and the
 // reader after it.
-#[derive(Drop)]
+#[derive(Clone, Copy)]
 struct Tried {
     neither: Sums,
     owed: usize,

@@ -1,5 +1,6 @@
 // The bench's examples on the code, what detection says of types 8 to 255, and the listing's lines: a line each. What the examples say of the
 // definitions is in specs/, and that it holds in proofs/. Rests on every crate that an example speaks of.
+#![tactic(auto)]
 ghost use Rattle.std.specs.Prelude.{◌≡◌, ◌≤◌, length};
 
 use blocks::FilePlace;

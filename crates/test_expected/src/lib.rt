@@ -1,5 +1,6 @@
 // The list of vectors: numbers in text, and what is expected against what came. All of it is for the crates above. Rests on test_tools,
 // and on io for the lines that it writes.
+#![tactic(auto)]
 use libc::STDOUT_FILENO;
 use test_tools::say;
 
@@ -7,7 +8,7 @@ use test_tools::say;
 pub mod making;
 
 // How far the list is read, in which case and at which answer, and how many answers and wrong ones there were.
-#[derive(Drop)]
+#[derive(Clone, Copy)]
 pub struct Seen {
     pub at: usize,
     pub case: u64,
@@ -17,14 +18,14 @@ pub struct Seen {
 }
 
 // A number of the list, and where it ends.
-#[derive(Drop)]
+#[derive(Clone, Copy)]
 pub struct Number {
     pub value: u64,
     pub at: usize,
 }
 
 // So many numbers of the list as values, the others 0, and where the last of them ends.
-#[derive(Drop)]
+#[derive(Clone, Copy)]
 pub struct Numbers {
     pub values: [u64; 16],
     pub at: usize,

@@ -17,7 +17,7 @@ const LONG: usize = 4;
 const SHAPE: usize = 9;
 
 // A case whose file was made: how long that is, what is asked of it, and how far the list is read.
-#[derive(Drop)]
+#[derive(Clone, Copy)]
 pub struct Made {
     pub seen: Seen,
     pub asked: [u64; 16],

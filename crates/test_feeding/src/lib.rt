@@ -1,5 +1,6 @@
 // A recording fed to a reader piece by piece, with digests of what comes out. All of it is for the crates above. Rests on reader,
 // test_sums, test_tools and tables.
+#![tactic(auto)]
 ghost use Rattle.std.specs.Prelude.{◌<◌, ◌≤◌};
 ghost use Rattle.reader.specs.State.{Reached};
 
@@ -8,7 +9,7 @@ use test_sums::{NUMBER, Sums, count_in, none};
 use test_tools::Cuts;
 
 // A reader and what came out of it.
-#[derive(Drop)]
+#[derive(Clone, Copy)]
 pub struct Fed {
     pub reader: Reader,
     pub sums: Sums,

@@ -1,5 +1,6 @@
 // Files from a number: SP recordings of both families, QP and QP7, most of them of under twelve blocks, some of under forty, and
 // part of one more. All of it is for the crates above. Rests on test_tools.
+#![tactic(auto)]
 use test_tools::{below, noise, set};
 
 // How files are cut.
@@ -10,7 +11,7 @@ pub mod tried;
 
 // A file: its length, where its audio starts, its whole blocks, the bytes of a block that is cut, and what it is: 0 DS2 SP, 2 and 3 DSS, by
 // its first byte, and 6 and 7 QP and QP7.
-#[derive(Drop)]
+#[derive(Clone, Copy)]
 pub struct Made {
     pub long: usize,
     pub start: usize,
@@ -31,7 +32,7 @@ fn kind_by(choice: u64) -> u64 {
 }
 
 // A block's header: its flag, byte 1, its count and its type.
-#[derive(Drop)]
+#[derive(Clone, Copy)]
 struct Header {
     flag: u64,
     first: u64,

@@ -4,7 +4,7 @@ use libc::STDOUT_FILENO;
 use test_tools::{Cuts, say, sum};
 
 // What was tried: files, cuts, packets by pieces, frames and records; refused pieces (by 7) and refused files; and disagreements.
-#[derive(Drop)]
+#[derive(Clone, Copy)]
 pub struct Tried {
     files: usize,
     cuts: usize,

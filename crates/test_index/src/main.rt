@@ -2,6 +2,7 @@
 // beside it, right or wrong, is read, an entry is found in it, and a packet is asked for by it. Says how many cases there were and how many answers
 // were wrong; each wrong one gets a line. make.py makes the list, and says what it holds.
 // Rests on index and finding, and on test_expected and test_sums and what these share.
+#![tactic(auto)]
 use libc::{STDIN_FILENO, STDOUT_FILENO};
 
 // One case.

@@ -15,7 +15,7 @@ const WORDS: usize = 3;
 const FRONT: usize = 4;
 
 // An index that was made: how long it is, and how far the list is read.
-#[derive(Drop)]
+#[derive(Clone, Copy)]
 pub struct Laid {
     pub seen: Seen,
     pub long: usize,

@@ -10,7 +10,7 @@ use test_tools::Cuts;
 
 // What a file gives in pieces and to the drained end: what the pieces brought, the frames owed then, what an end gets by a choice that is
 // neither, what the strict end gets, and all that came out.
-#[derive(Drop)]
+#[derive(Clone, Copy)]
 struct ToTheEnd {
     came: Sums,
     owed: usize,

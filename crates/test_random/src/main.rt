@@ -1,6 +1,7 @@
 // Generated files: what the whole reading hands out, against what pieces hand out and against the tally. Every two-piece cut of small
 // recordings, three-piece cuts around the edges of blocks, and many files with random cuts. One line with counts; each disagreement gets a
 // line of its own. Rests on all the calls, and on test_generated, test_readings, test_feeding, test_ends and what these share.
+#![tactic(auto)]
 use test_generated::tried::{conclude, none};
 
 // One file, fed and drained.

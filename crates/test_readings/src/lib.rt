@@ -1,5 +1,6 @@
 // One file's whole reading and its tally, in numbers. All of it is for the crates above. Rests on the whole calls and the tally, on
 // test_generated, and on test_fetched, test_sums, test_tools and tables.
+#![tactic(auto)]
 use tally::{FileKind, Tallied};
 use test_fetched::{Gathered, qp_said, qp7_said};
 use test_generated::Made;
@@ -26,7 +27,7 @@ fn byte(file: &[u8], at: usize) -> usize {
 }
 
 // What packets in a row leave: how many of them are short, and whether the byte that is carried on came from the file.
-#[derive(Drop)]
+#[derive(Clone, Copy)]
 struct Left {
     short: usize,
     sourced: bool,

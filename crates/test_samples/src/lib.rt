@@ -1,4 +1,5 @@
 // Files of which the examples speak, and how what is found in them is shown. For the programs above. Rests on tables, refusals and io.
+#![tactic(auto)]
 ghost use Rattle.std.specs.Prelude.{◌≡◌, length};
 
 // Words and numbers.

@@ -1,11 +1,12 @@
 // What the testing programs share: noise that files are filled with, digests of what was handed out, and lines. A test that goes wrong is to
 // be seen, so nothing here demands anything of lent memory: what lies outside is left out. All of it is for the crates above. Rests on
 // tables and on the kit's io.
+#![tactic(auto)]
 use libc::STDOUT_FILENO;
 
 // Where pieces end: at the first place, at the second, and then after some bytes that noise chooses, up to `step`; with a step of 0, at the
 // end.
-#[derive(Drop)]
+#[derive(Clone, Copy)]
 pub struct Cuts {
     pub first: usize,
     pub second: usize,

@@ -10,14 +10,14 @@ use test_sums::{BESIDE, BYTES, NUMBER, PACKETS, PAST, PIECES, Sums, TAKEN};
 use test_tools::{Cuts, say};
 
 // What the pieces of a file brought, and the ends.
-#[derive(Drop)]
+#[derive(Clone, Copy)]
 struct Course {
     came: Sums,
     ended: Ended,
 }
 
 // What a file gives in pieces: the answer to open, and to an empty piece then; what the pieces brought, and the ends.
-#[derive(Drop)]
+#[derive(Clone, Copy)]
 pub struct Pieces {
     opened: Sums,
     fresh: Sums,

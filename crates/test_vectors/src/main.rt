@@ -1,6 +1,7 @@
 // Replays a fixed list of files with the answers that are expected for each, from standard input, and says how many cases there were and how
 // many answers were wrong; each wrong one gets a line. LIST.md says what the list holds, and make.py makes it.
 // Rests on all the calls, and on test_asked, test_expected, test_feeding, test_ends and what these share.
+#![tactic(auto)]
 use libc::{STDIN_FILENO, STDOUT_FILENO};
 
 // The calls on one file.

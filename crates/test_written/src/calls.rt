@@ -5,7 +5,7 @@ use test_tools::{all_differ, digest};
 use writing::Written;
 
 // What a case came to, 1 or 0: whether the call was answered, and whether the file gave the packets back.
-#[derive(Drop)]
+#[derive(Clone, Copy)]
 pub struct Came {
     pub answered: usize,
     pub back: usize,

@@ -1,6 +1,7 @@
 // Replays a fixed list of headers and packets for the writer of DS2 SP files, from standard input, and says how many cases there were, how
 // many were answered, and how many of the files gave their packets back; each difference gets a line. make.py makes the list, and says what
 // it holds and why refusal 17 is not in it. Rests on writing and sp, on test_expected and test_sums and what these share.
+#![tactic(auto)]
 use libc::{STDIN_FILENO, STDOUT_FILENO};
 use test_tools::{say, sum};
 

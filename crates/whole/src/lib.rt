@@ -1,5 +1,6 @@
 // What every whole call asks first: whether it takes a file, where that file's audio starts and how many blocks follow. And a block's payload
 // on request. Rests on detect, for the start and the type, on blocks, magic, refusals and tables.
+#![tactic(auto)]
 ghost use Rattle.std.specs.Prelude.{◌≡◌, ◌*◌, ◌≤◌, get_or};
 ghost use Rattle.blocks.specs.Places.{Whole};
 ghost use Rattle.refusals.specs.Said.{demand};
@@ -12,20 +13,20 @@ use magic::Magic;
 use refusals::Refusal;
 
 // A file that a whole call takes: where its audio starts, and how many whole blocks follow.
-#[derive(Drop)]
+#[derive(Clone, Copy)]
 pub struct Recording {
     pub start: FilePlace,
     pub blocks: usize,
 }
 
-#[derive(Drop)]
+#[derive(Clone, Copy)]
 pub enum Admission {
     Admitted(Recording),
     Refused(Refusal),
 }
 
 // Where in the file a block's payload stands.
-#[derive(Drop)]
+#[derive(Clone, Copy)]
 pub enum PayloadAnswer {
     At(FilePlace),
     Refused(Refusal),

@@ -1,6 +1,7 @@
 // DS2 SP files out: from a header that the caller supplies and a list of packets, the file, into lent memory.
 // Rests on laying, which lays out blocks, on packets, for where a read lies, on refusals, blocks and tables; and for what reading the file
 // gives, on sp.
+#![tactic(auto)]
 ghost use Rattle.std.specs.Prelude.{◌≡◌, ◌+◌, ◌*◌, ◌/◌, ◌≤◌, ◌<◌, ◌^◌, false, length, get_or};
 ghost use Rattle.packets.specs.Walk.{reach};
 ghost use Rattle.laying.specs.Inner.{count_at, Holds};
@@ -16,7 +17,7 @@ use refusals::Refusal;
 const MOST: usize = 6_470_444;
 
 // How long the file is, or why the call refuses.
-#[derive(Drop)]
+#[derive(Clone, Copy)]
 pub enum Written {
     Bytes(usize),
     Refused(Refusal),

@@ -1,0 +1,31 @@
+-- `magic::magic_of` meets its contract: by the length and the two names in their order.
+-- Assumes nothing.
+use borrow.Author.Tests.{lt-ltb, le-ltb}
+use Rattle.tables.proofs.Tests.{told}
+use Rattle.magic.specs.Magics.{magic_of}
+use borrow.Author.Rules.{rules}
+use Rattle.std.proofs.Common.{rules, ◌≡◌, ◌≤◌, length, get_or, ℕ, ◌+◌, ◌-◌, ◌*◌, ◌<◌, ◌/◌, ◌%◌, Bool, true, false, nat_eq, nat_lt, List, [], ◌∷◌, ◌++◌, slice_set, bit_and, bit_or, Fits, w8, w32, w64, Bor, MutBor}
+use Rattle.magic.specs.Magics.{spells, names_dss, dss_by, ds2_by, magic_of}
+use Rattle.magic.proofs.magic_of.Goals as goal
+
+pub returns-then-file-lt4 : goal.returns-then-file-lt4
+unfolding magic_of
+returns-then-file-lt4 c = simp (lt-ltb _ _ c.if-file-lt4.true)
+
+pub returns-then-is_spelt : goal.returns-then-is_spelt
+unfolding magic_of
+returns-then-is_spelt c =
+    let enough = le-ltb _ _ c.if-file-lt4.false in
+    simp (enough, told c.is_spelt.ensures c.if-is_spelt.true, c.dss_by.ensures)
+
+pub returns-then-is_spelt-2 : goal.returns-then-is_spelt-2
+unfolding magic_of
+returns-then-is_spelt-2 c =
+    let enough = le-ltb _ _ c.if-file-lt4.false in
+    simp (enough, told c.is_spelt.ensures c.if-is_spelt.false, told c.is_spelt-2.ensures c.if-is_spelt-2.true, c.ds2_by.ensures)
+
+pub returns : goal.returns
+unfolding magic_of
+returns c =
+    let enough = le-ltb _ _ c.if-file-lt4.false in
+    simp (enough, told c.is_spelt.ensures c.if-is_spelt.false, told c.is_spelt-2.ensures c.if-is_spelt-2.false)

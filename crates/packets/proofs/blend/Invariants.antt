@@ -1,0 +1,17 @@
+-- `packets::blend` meets its contract: each place has the blend of the two shifts so far.
+-- Assumes nothing.
+use Prim.Native.Nat.{◌+◌, ◌-◌, ◌%◌, ◌≤◌, ◌<◌}
+use mathlib.Core.Path.{◌≡◌, refl, ◌∙◌}
+use mathlib.Core.Bool.{cond}
+use lib.ListN.{length, get_or}
+use lib.Dec.{eqb}
+use Rattle.tables.specs.Lent.{Leaves}
+use Rattle.tables.proofs.Lent.{leaves_none, leaves_next, leaves_to, leaves_at}
+use Rattle.packets.proofs.blend.Given as goal
+
+abbrev pub invariant-loop-k : goal.invariant-loop-k
+invariant-loop-k l =
+    (l.k ≤ 48) × ((length l.initial.blend ≡ 48) × Leaves l.initial.blend 0 l.k (λ j. cond (eqb (j % 2) 0) (get_or l.read (j + 4) 0) (get_or l.read j 0)) l.blend)
+
+abbrev pub decreases-loop-k : goal.decreases-loop-k
+decreases-loop-k l = 48 - l.k
