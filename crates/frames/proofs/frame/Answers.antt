@@ -1,0 +1,37 @@
+-- `frames::frame` meets its contract: by the tests.
+-- Assumes nothing.
+use mathlib.Core.Path.{sym}
+use native.Mathlib.Omega.{arith}
+use Rattle.frames.proofs.Frames.{none_found, frame_missing, frame_too_far, frame_found}
+use borrow.Author.Rules.{rules}
+use Rattle.std.proofs.Common.{rules, ◌≡◌, ◌+◌, ◌*◌, ◌<◌, ◌≤◌, ◌^◌, false, length, ℕ, ◌-◌, ◌/◌, ◌%◌, Bool, true, nat_eq, nat_lt, List, [], ◌∷◌, ◌++◌, slice_index_or, slice_set, bit_and, bit_or, Fits, w8, w32, w64, Bor, MutBor}
+use Rattle.tables.specs.Lent.{Leaves}
+use Rattle.blocks.specs.Places.{Whole, file_of}
+use Rattle.blocks.specs.Headers.{first_of}
+use Rattle.refusals.specs.Said.{answers, demand}
+use Rattle.whole.specs.Admissions.{admission_says, stream_in}
+use Rattle.frames.specs.Start.{frames_start}
+use Rattle.frames.specs.Frames.{frame_of}
+use Rattle.frames.specs.Fetch.{can_fetch, fetch_from, is_inside, stand_in, standing, fetched_says, filled_from, shown_from, shown, Fills}
+use Rattle.frames.specs.Inner.{Fetchable}
+use Rattle.frames.proofs.frame.Goals as goal
+
+pub returns-then-long-k : goal.returns-then-long-k
+returns-then-long-k c =
+    let a = c.args in
+    none_found a.start.0 a.long a.k c.no_frame.result c.no_frame.ensures (frame_missing a.start.0 a.long a.k (omega arith))
+
+pub returns-then-left-eq0 : goal.returns-then-left-eq0
+returns-then-left-eq0 c =
+    let a = c.args in
+    none_found a.start.0 a.long a.k c.no_frame-then-left-eq0.result c.no_frame-then-left-eq0.ensures (frame_missing a.start.0 a.long a.k (omega arith))
+
+pub returns-then-from-far : goal.returns-then-from-far
+returns-then-from-far c =
+    let a = c.args in
+    none_found a.start.0 a.long a.k c.no_frame-then-from-far.result c.no_frame-then-from-far.ensures (frame_too_far a.start.0 a.long a.k (omega arith))
+
+pub returns : goal.returns
+returns c =
+    let a = c.args in
+    rw c.lesser.ensures (sym (frame_found a.start.0 a.long a.k (omega arith) (omega arith)))
