@@ -1,6 +1,7 @@
 // One file's whole reading and its tally, in numbers. All of it is for the crates above. Rests on the whole calls and the tally, on
 // test_generated, and on test_fetched, test_sums, test_tools and tables.
 #![tactic(auto)]
+
 use tally::{FileKind, Tallied};
 use test_fetched::{Gathered, qp_said, qp7_said};
 use test_generated::Made;

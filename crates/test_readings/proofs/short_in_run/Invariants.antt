@@ -1,0 +1,10 @@
+-- `test_readings::short_in_run` meets its contract: it takes one packet after another, and ends.
+-- Assumes nothing.
+use Rattle.std.proofs.Common.{◌-◌, ◌≤◌}
+use Rattle.test_readings.proofs.short_in_run.Given as goal
+
+abbrev pub invariant-loop-k : goal.invariant-loop-k
+invariant-loop-k l = l.k ≤ l.many
+
+abbrev pub decreases-loop-k : goal.decreases-loop-k
+decreases-loop-k l = l.many - l.k
