@@ -5,10 +5,7 @@ use borrow.Author.Rules.{rules}
 use Rattle.std.proofs.Common.{◌≡◌, ◌+◌, ◌*◌, ◌≤◌, ◌^◌, ◌-◌, ◌<◌, ◌/◌, ◌%◌, [], ◌∷◌, ◌++◌}
 use Rattle.hold_dss.proofs.add_dss.Goals as goal
 
-abbrev entry : tie.After-passes → tie.Start
-entry c = c.before.before.before.before.before.before.before.before
-
 pub returns-then-passes : goal.returns-then-passes
 returns-then-passes c =
-    let long = (entry c).requires.0 in
+    let long = c.requires.long in
     (long.0, long.1, c.pass_dss.ensures _ _)

@@ -12,31 +12,27 @@ use borrow.Author.Rules.{rules}
 use Rattle.std.proofs.Common.{◌≤◌, ◌^◌, ◌+◌, ◌-◌, ◌*◌, ◌<◌, ◌/◌, ◌%◌, [], ◌∷◌, ◌++◌}
 use Rattle.index.proofs.hold.Goals as goal
 
--- what is known once the frame has been asked
-is_framed : (c : tie.Else1) → framed c.before.before.before.before.args.index.now ≡ true
-is_framed c = sym c.before.is_framed.ensures ∙ not-false _ c.if1.false
-
 pub bounds-index-4 : goal.bounds-index-4
-bounds-index-4 c = omega (arith, (framed_says _ (is_framed c)).0)
+bounds-index-4 c = omega (arith, (framed_says _ (sym c.is_framed.ensures ∙ c.if-not-is_framed.false)).0)
 
 pub returns-then-wrong-totals : goal.returns-then-wrong-totals
 returns-then-wrong-totals c =
     let a = c.args in
     rw c.index_entry.ensures
-    (entry_wrong a.index.now (contents_in a.file.now a.recording) (is_framed c) c.if-version-ne-VERSION.false _ c.first_wrong-wrong.ensures
+    (entry_wrong a.index.now (contents_in a.file.now a.recording) (sym c.is_framed.ensures ∙ c.if-not-is_framed.false) c.if-version-ne-VERSION.false _ c.first_wrong-wrong.ensures
     (omega (arith, c.if-wrong-totals.true, c.add_up-totals.ensures.entries.0)))
 
 pub returns-then-index-totals : goal.returns-then-index-totals
 returns-then-index-totals c =
     let a = c.args in
     rw c.index_entry-then-index-totals.ensures
-    (too_long a.index.now (contents_in a.file.now a.recording) (is_framed c) c.if-version-ne-VERSION.false _ c.first_wrong-wrong.ensures
+    (too_long a.index.now (contents_in a.file.now a.recording) (sym c.is_framed.ensures ∙ c.if-not-is_framed.false) c.if-version-ne-VERSION.false _ c.first_wrong-wrong.ensures
     (λ e. c.if-index-totals.true (omega (arith, e, c.add_up-totals.ensures.entries.0))))
 
 pub returns : goal.returns
 returns c =
     let a = c.args in
     let t = c.add_up-totals in
-    rw (by_totals t.result (contents_in a.file.now a.recording) t.ensures.0.0 t.ensures.1)
-    (accepted a.index.now (contents_in a.file.now a.recording) (is_framed c) c.if-version-ne-VERSION.false _ c.first_wrong-wrong.ensures
-    (omega (arith, c.if-wrong-totals.false, t.ensures.0.0)) (omega (arith, c.if-index-totals.false, t.ensures.0.0)))
+    rw (by_totals t.result (contents_in a.file.now a.recording) t.ensures.entries.0 t.ensures.packets)
+    (accepted a.index.now (contents_in a.file.now a.recording) (sym c.is_framed.ensures ∙ c.if-not-is_framed.false) c.if-version-ne-VERSION.false _ c.first_wrong-wrong.ensures
+    (omega (arith, c.if-wrong-totals.false, t.ensures.entries.0)) (omega (arith, c.if-index-totals.false, t.ensures.entries.0)))
