@@ -157,7 +157,7 @@ def every() -> list[str]:
 def tried(logs: str, room: str) -> list[str]:
     """What is wrong with the edits, of which as many are tried at once as there are processors. Each crate's are tried in one copy."""
     rooms, crates = queue.Queue(), sorted({path.split("/")[1] for path in every()}, key=lambda it: -len(glob.glob(f"crates/{it}/must-fail/*.edit")))
-    many = min(AT_MOST, os.cpu_count() or 1)
+    many = min(AT_MOST, len(os.sched_getaffinity(0)))
     for number in range(many):
         copied(f"{room}/{number}")
         rooms.put(f"{room}/{number}")
