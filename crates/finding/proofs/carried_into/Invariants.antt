@@ -1,0 +1,16 @@
+-- `finding::carried_into` meets its contract: what is carried to the block is what is carried to each block that was looked back to.
+-- Assumes nothing.
+use Prim.Native.Nat.{◌+◌, ◌-◌, ◌≤◌}
+use mathlib.Core.Path.{◌≡◌, refl, sym, ap, ◌∙◌}
+use native.Mathlib.Omega.{arith}
+use Rattle.packets.proofs.Unswapped.{upto_most}
+use Rattle.finding.specs.Packet.{carried_into}
+use Rattle.finding.proofs.Carried.{into_none, into_last, into_kept, near_run}
+use Rattle.finding.proofs.carried_into.Given as goal
+
+abbrev pub invariant-loop-before : goal.invariant-loop-before
+invariant-loop-before l =
+    (l.before ≤ l.block) × (carried_into l.file l.recording l.before ≡ carried_into l.file l.recording l.block)
+
+abbrev pub decreases-loop-before : goal.decreases-loop-before
+decreases-loop-before l = l.before

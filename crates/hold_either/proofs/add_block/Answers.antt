@@ -1,0 +1,16 @@
+-- `hold_either::add_block` meets its contract: of either kind, the one that it is.
+-- Assumes nothing.
+use Rattle.hold.proofs.Adding.{next_as, added_as}
+use borrow.Author.Rules.{rules}
+use Rattle.std.proofs.Common.{◌≡◌, ◌+◌, ◌-◌, ◌*◌, ◌<◌, ◌≤◌, ◌/◌, ◌%◌, [], ◌∷◌, ◌++◌}
+use Rattle.hold_either.proofs.add_block.Goals as goal
+
+pub returns-then-dss : goal.returns-then-dss
+returns-then-dss c =
+    let e = c.add_dss.ensures in
+    (e.0, e.1, added_as c.if-dss.true _ _ _ _ _ _ _ _ _ _ _ _ _ _ _ _ e.2)
+
+pub returns : goal.returns
+returns c =
+    let e = c.add_ds2.ensures in
+    (e.0, c.requires.long.1, added_as c.if-dss.false _ _ _ _ _ _ _ _ _ _ _ _ _ _ _ _ (e.1 _))

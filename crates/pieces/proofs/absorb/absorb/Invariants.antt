@@ -1,0 +1,20 @@
+-- `pieces::absorb::absorb` meets its contract: the blocks before b have been added, and what they brought stands in front.
+-- Assumes nothing.
+use Prim.Native.Nat.{ℕ, ◌+◌, ◌-◌, ◌≤◌}
+use mathlib.Core.Path.{refl}
+use mathlib.Core.List.{List}
+use lib.ListN.{length}
+use borrow.Author.Tests.{not-true, not-false}
+use native.Mathlib.Omega.{arith}
+use Rattle.tables.proofs.Cases.{never}
+use Rattle.blocks.specs.Places.{limit}
+use Rattle.pieces.proofs.Absorbing.{May, Turns, turns_begin, lent_long, ready_grown, comes, turned, absorbed}
+use Rattle.pieces.proofs.absorb.absorb.Given as goal
+
+abbrev pub invariant-loop-b : goal.invariant-loop-b
+invariant-loop-b l =
+    Turns l.dss l.a.0 l.taken l.initial.standing l.initial.hold l.initial.partial l.initial.waiting l.piece l.initial.out l.initial.counts l.b l.hold l.partial l.waiting l.standing l.out l.counts
+
+abbrev pub decreases-loop-b : goal.decreases-loop-b
+decreases-loop-b l =
+    l.end - l.b

@@ -1,0 +1,17 @@
+-- `pieces::survey::block_fits` meets its contract: where the hold begins is known with no walk.
+-- Assumes nothing.
+use mathlib.Core.Path.{ap, ◌∙◌}
+use native.Mathlib.Omega.{arith}
+use Rattle.packets.specs.Walk.{reach}
+use Rattle.packets.proofs.Reaches.{reach_most}
+use Rattle.pieces.proofs.Surveying.{base_is}
+use borrow.Author.Rules.{rules}
+use Rattle.std.proofs.Common.{◌≡◌, ◌+◌, ◌*◌, ◌-◌, ◌≤◌, ◌<◌, ◌/◌, ◌%◌, [], ◌∷◌, ◌++◌}
+use Rattle.pieces.proofs.survey.block_fits.Goals as goal
+
+pub returns : goal.returns
+returns c =
+    λ f a bytes announced first.
+    let v = c.reads_within.ensures in
+    let base = c.reach-base.ensures ∙ ap (reach c.flag-swap.result) c.lesser-ready.ensures in
+    rw (base, base_is f a _ _ _ c.reads_within.result _ announced first c.flag-swap.ensures v.0 v.1)
