@@ -1,0 +1,30 @@
+-- `at_once::read` meets its contract: it refuses a number that is too high, then for want of room, or hands out the packet.
+-- Assumes nothing.
+use mathlib.Core.Path.{sym, ◌∙◌}
+use native.Mathlib.Omega.{arith}
+use borrow.Author.Tests.{not-true, not-false}
+use Rattle.at_once.proofs.Outcome.{beyond, packet_no_room, packet_with_room, is_ready}
+use borrow.Author.Rules.{rules}
+use Rattle.std.proofs.Common.{rules, ◌≡◌, ◌≤◌, ◌^◌, ℕ, ◌+◌, ◌-◌, ◌*◌, ◌<◌, length, ◌/◌, ◌%◌, Bool, true, false, nat_eq, nat_lt, List, [], ◌∷◌, ◌++◌, slice_index_or, slice_set, bit_and, bit_or, Fits, w8, w32, w64, Bor, MutBor}
+use Rattle.blocks.specs.Places.{Whole}
+use Rattle.whole.specs.Admissions.{stream_in}
+use Rattle.sp.specs.Outcome.{Demuxes}
+use Rattle.sp.specs.Written.{Written}
+use Rattle.sp.specs.Inner.{Readable}
+use Rattle.at_once.specs.Straight.{carried_to, straight, of_number, packet_reading}
+use Rattle.at_once.specs.Inner.{Ready}
+use Rattle.at_once.proofs.read.Goals as goal
+
+pub returns-then-total-number : goal.returns-then-total-number
+returns-then-total-number c =
+    rw c.beyond.ensures (beyond _ _ _ _ _ _ c.announced-total.ensures.0 c.if-total-number.true)
+
+pub returns-then-not-has_room : goal.returns-then-not-has_room
+returns-then-not-has_room c =
+    rw c.room.ensures
+    (packet_no_room _ _ _ _ _ (omega (arith, c.if-total-number.false, c.announced-total.ensures.0)) (sym c.has_room.ensures ∙ c.if-not-has_room.true))
+
+pub returns : goal.returns
+returns c =
+    packet_with_room _ _ _ _ _ (omega (arith, c.if-total-number.false, c.announced-total.ensures.0)) (sym c.has_room.ensures ∙ c.if-not-has_room.false)
+    c.hand_out.ensures

@@ -1,0 +1,14 @@
+-- `entries::put_entries` meets its contract: before each block the entries of those before it are laid.
+-- Assumes nothing.
+use Prim.Native.Nat.{◌-◌}
+use native.Mathlib.Omega.{arith}
+use Rattle.whole.proofs.Admissions.{few_blocks}
+use Rattle.entries.proofs.Blockwise.{LaidUpto, laid_none, laid_silent, laid_next, laid_room, laid_all}
+use Rattle.entries.proofs.put_entries.Given as goal
+
+abbrev pub invariant-loop-block : goal.invariant-loop-block
+invariant-loop-block l =
+    LaidUpto l.file l.start.0 l.blocks l.initial.out l.front l.block l.at l.first l.out
+
+abbrev pub decreases-loop-block : goal.decreases-loop-block
+decreases-loop-block l = l.blocks - l.block

@@ -1,0 +1,31 @@
+-- `hold::waiting::released` meets its contract: the blocks so far are all read, and the first that is not is the front.
+-- Assumes nothing.
+use Prim.Native.Nat.{◌-◌}
+use native.Mathlib.Omega.{arith}
+use Rattle.hold.proofs.Leaving.{Leaving, leaving_begins, leaving_goes_on, not_read, leaving_ends}
+use borrow.Author.Rules.{rules}
+use Rattle.std.proofs.Common.{rules, ◌≡◌, List, true, ℕ, ◌+◌, ◌*◌, ◌-◌, ◌≤◌, ◌<◌, length, get_or, ◌/◌, ◌%◌, Bool, false, nat_eq, nat_lt, [], ◌∷◌, ◌++◌, slice_set, bit_and, bit_or, Fits, w8, w32, w64, Bor, MutBor}
+use Rattle.tables.specs.Lent.{Leaves}
+use Rattle.blocks.specs.Headers.{announced_in, flag_of, header_byte}
+use Rattle.sp.specs.ReadLists.{dss_run}
+use Rattle.hold.specs.Ready.{reading_in, read_in, front}
+use Rattle.hold.specs.Held.{headers_from}
+use Rattle.hold.specs.Inner.{PartWritten, Queued}
+use Rattle.hold.proofs.waiting.released.Goals as goal
+
+pub returns-then-long-end : goal.returns-then-long-end
+returns-then-long-end c =
+    let l = c.loop-blocks in
+    leaving_ends _ _ _ l.blocks l.packets l.invariant
+    (λ there. not_read _ _ _ l.blocks l.packets l.invariant c.waiting_run-run.result c.waiting_run-run.ensures.2 (search rules) (search rules))
+
+pub loop-blocks-preserved : goal.loop-blocks-preserved
+loop-blocks-preserved c =
+    let l = c.loop-blocks in
+    leaving_goes_on _ _ _ l.blocks l.packets l.invariant c.waiting_run-run.result c.waiting_run-run.ensures.2
+    (search rules) (search rules) (search rules)
+
+pub returns : goal.returns
+returns c =
+    let l = c.loop-blocks in
+    leaving_ends _ _ _ l.blocks l.packets l.invariant (λ there. absurd (omega (arith, c.loop-blocks-test.false)))

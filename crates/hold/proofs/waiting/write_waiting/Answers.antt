@@ -1,0 +1,71 @@
+-- `hold::waiting::write_waiting` meets its contract: block by block the parts follow one another.
+-- Assumes nothing.
+use Prim.Native.Nat.{◌+◌, ◌-◌, ◌<◌}
+use mathlib.Core.Path.{refl}
+use native.Mathlib.Omega.{arith}
+use lib.ListN.{length}
+use Rattle.blocks.specs.Places.{stream_at}
+use Rattle.hold.specs.Inner.{Queued}
+use Rattle.hold.proofs.Queue.{Queueing, queue_begins, block_there, part_asked, queue_goes_on, queue_ends}
+use borrow.Author.Rules.{rules}
+use Rattle.std.proofs.Common.{rules, ◌≡◌, List, true, ℕ, ◌+◌, ◌*◌, ◌-◌, ◌≤◌, ◌<◌, length, get_or, ◌/◌, ◌%◌, Bool, false, nat_eq, nat_lt, [], ◌∷◌, ◌++◌, slice_set, bit_and, bit_or, Fits, w8, w32, w64, Bor, MutBor}
+use Rattle.tables.specs.Lent.{Leaves}
+use Rattle.blocks.specs.Headers.{announced_in, flag_of, header_byte}
+use Rattle.sp.specs.ReadLists.{dss_run}
+use Rattle.hold.specs.Ready.{reading_in, read_in, front}
+use Rattle.hold.specs.Held.{headers_from}
+use Rattle.hold.specs.Inner.{PartWritten, Queued}
+use Rattle.hold.proofs.waiting.write_waiting.Goals as goal
+
+-- while packets are left there is a block
+there : (c : tie.In-loop invariant-loop decreases-loop) → c.before.before.before.before.args.j + c.before.loop.i < c.before.before.before.before.args.n
+there c =
+    let g = c.before.before.before.before.requires.1 in
+    block_there (c.before.loop.invariant g) g.due c.loop-test.true
+
+pub overflow_add-j : goal.overflow_add-j
+overflow_add-j c = omega (arith, c.requires.queued.few, there c)
+
+pub waiting_run-run-requires : goal.waiting_run-run-requires
+waiting_run-run-requires c =
+    (c.requires.long.1, omega (arith, c.requires.queued.near, there c), omega (arith, c.requires.queued.few, there c))
+
+pub part_of-part-requires : goal.part_of-part-requires
+part_of-part-requires c =
+    let few = c.requires.queued.few in
+    (omega (arith, c.waiting_run-run.ensures.0), omega (arith, c.waiting_run-run.ensures.1, few, there c))
+
+pub write_held-carried-requires-clause-held : goal.write_held-carried-requires-clause-held
+write_held-carried-requires-clause-held c = let g = c.requires.queued in
+    let q = c.loop-left.invariant g in
+    let left = c.loop-left-test.true in
+    let run = c.waiting_run-run.ensures.2 g.f g.a c.args.n c.args.j g.waiting_is refl (there c) in
+    let asked =
+    part_asked q g.due left c.waiting_run-run.result c.part_of-part.result _ _ run c.lesser-here.ensures
+    c.lesser-some.ensures c.part_of-part.ensures c.waiting_run-run.ensures.0 c.waiting_run-run.ensures.1 g.few in
+    (c.requires.long.0, asked.0)
+
+pub write_held-carried-requires-clause-near : goal.write_held-carried-requires-clause-near
+write_held-carried-requires-clause-near c = let g = c.requires.queued in
+    let q = c.loop-left.invariant g in
+    let left = c.loop-left-test.true in
+    let run = c.waiting_run-run.ensures.2 g.f g.a c.args.n c.args.j g.waiting_is refl (there c) in
+    let asked =
+    part_asked q g.due left c.waiting_run-run.result c.part_of-part.result _ _ run c.lesser-here.ensures
+    c.lesser-some.ensures c.part_of-part.ensures c.waiting_run-run.ensures.0 c.waiting_run-run.ensures.1 g.few in
+    (asked.1, asked.2)
+
+pub overflow_add-i : goal.overflow_add-i
+overflow_add-i c =
+    omega (arith, c.requires.queued.few, there c)
+
+pub loop-left-smaller : goal.loop-left-smaller
+loop-left-smaller c = omega (arith, there c)
+
+pub loop-left-preserved : goal.loop-left-preserved
+loop-left-preserved c =
+    let q = c.loop-left.invariant g in
+    let left = c.loop-left-test.true in
+    let run = c.waiting_run-run.ensures.2 g.f g.a c.args.n c.args.j g.waiting_is refl (there c) in
+    queue_goes_on q g.due left c.waiting_run-run.result c.part_of-part.result _ _ run c.lesser-here.ensures c.lesser-some.ensures
+    c.part_of-part.ensures (c.write_held-carried.ensures (stream_at g.f g.a c.args.n) g.holds)

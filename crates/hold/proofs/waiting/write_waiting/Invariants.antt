@@ -1,0 +1,19 @@
+-- `hold::waiting::write_waiting` meets its contract: block by block the parts follow one another.
+-- Assumes nothing.
+use Prim.Native.Nat.{◌+◌, ◌-◌, ◌<◌}
+use mathlib.Core.Path.{refl}
+use native.Mathlib.Omega.{arith}
+use lib.ListN.{length}
+use Rattle.blocks.specs.Places.{stream_at}
+use Rattle.hold.specs.Inner.{Queued}
+use Rattle.hold.proofs.Queue.{Queueing, queue_begins, block_there, part_asked, queue_goes_on, queue_ends}
+use Rattle.hold.proofs.waiting.write_waiting.Given as goal
+
+abbrev pub invariant-loop-left : goal.invariant-loop-left
+invariant-loop-left l =
+    (g : Queued l.n l.j l.d l.m l.number l.hold l.waiting l.carry (length l.initial.out) (length l.initial.counts))
+    → Queueing g.f g.a l.n l.j l.d l.m l.number l.initial.out l.initial.counts l.i l.skip l.left l.carried l.out l.counts
+
+abbrev pub decreases-loop-left : goal.decreases-loop-left
+decreases-loop-left l =
+    l.n - (l.j + l.i)

@@ -1,0 +1,16 @@
+-- `hold::write_held` meets its contract: as a run is written from a file, for any stream whose bytes the hold has.
+-- Assumes nothing.
+use Prim.Native.Nat.{◌-◌}
+use native.Mathlib.Omega.{arith}
+use Rattle.hold.specs.Inner.{Holds}
+use Rattle.hold.proofs.Handed.{Handing, handing_begins, handing_goes_on, handing_ends}
+use Rattle.hold.proofs.write_held.Given as goal
+
+abbrev pub invariant-loop-n : goal.invariant-loop-n
+invariant-loop-n l =
+    Handing (λ s. Holds s l.long l.begin l.hold) l.begin l.long (record { place = l.initial.place.0; carry = l.initial.carried; swap = l.initial.swap }) l.number l.initial.out l.initial.counts l.count l.n
+    (record { place = l.place.0; carry = l.carried; swap = l.swap }) l.out l.counts
+
+abbrev pub decreases-loop-n : goal.decreases-loop-n
+decreases-loop-n l =
+    l.count - l.n

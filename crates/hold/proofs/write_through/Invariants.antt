@@ -1,0 +1,17 @@
+-- `hold::write_through` meets its contract: as a run is written from the hold, each read lying in the payload.
+-- Assumes nothing.
+use Prim.Native.Nat.{◌+◌, ◌-◌}
+use native.Mathlib.Omega.{arith}
+use Rattle.hold.specs.Inner.{Bears}
+use Rattle.hold.proofs.Handed.{Handing, handing_begins, handing_goes_on, handing_ends}
+use Rattle.hold.proofs.Through.{read_inside}
+use Rattle.hold.proofs.write_through.Given as goal
+
+abbrev pub invariant-loop-n : goal.invariant-loop-n
+invariant-loop-n l =
+    Handing (Bears l.source l.at l.begin) l.begin (l.begin + 506) (record { place = l.initial.place.0; carry = l.initial.carried; swap = l.initial.swap }) l.number l.initial.out l.initial.counts l.count l.n
+    (record { place = l.place.0; carry = l.carried; swap = l.swap }) l.out l.counts
+
+abbrev pub decreases-loop-n : goal.decreases-loop-n
+decreases-loop-n l =
+    l.count - l.n

@@ -1,0 +1,51 @@
+-- `qp7::read_records` meets its contract: what is left computes the rest.
+-- Assumes nothing.
+use Prim.Native.Nat.{◌+◌, ◌*◌, ◌-◌, ◌≤◌}
+use mathlib.Core.Path.{◌≡◌, refl, sym, ap}
+use native.Mathlib.Omega.{arith}
+use lib.ListN.{length}
+use Rattle.tables.proofs.Tests.{told}
+use Rattle.blocks.specs.Places.{stream_at}
+use Rattle.refusals.proofs.Said.{not_both}
+use Rattle.qp7.specs.declared.Walk.{Walk}
+use Rattle.qp7.specs.Inner.{numbers_of}
+use Rattle.qp7.specs.Records.{record_says}
+use Rattle.qp7.specs.Walk.{Gathered}
+use Rattle.qp7.proofs.Records.{record_found, why_is}
+use Rattle.qp7.proofs.Reading.{Came, reading_begins, reading_goes_on, reading_stops, reading_ends, near_after}
+use borrow.Author.Rules.{rules}
+use Rattle.std.proofs.Common.{rules, ◌≡◌, ◌+◌, ◌*◌, ◌<◌, ◌≤◌, ◌^◌, max, [], ◌∷◌, length, ℕ, ◌-◌, ◌/◌, ◌%◌, Bool, true, false, nat_eq, nat_lt, List, ◌++◌, slice_index_or, slice_set, bit_and, bit_or, Fits, w8, w32, w64, Bor, MutBor}
+use Rattle.tables.specs.Inner.{Puts}
+use Rattle.refusals.specs.Said.{answers}
+use Rattle.whole.specs.Admissions.{Sound, stream_in}
+use Rattle.qp7.specs.Records.{record_size, record_at, record_says}
+use Rattle.qp7.specs.Inner.{numbers_of, numbers_at, walked_says, Near, ReadsOn, Closes, GoesOn}
+use Rattle.qp7.specs.Walk.{Gathered, nothing, with_block, gathered_from, qp7_reading}
+use Rattle.qp7.specs.Outcome.{width, entry_of, Demuxes}
+use Rattle.qp7.proofs.read_records.Goals as goal
+
+pub returns-in_default-clause-on : goal.returns-in_default-clause-on
+returns-in_default-clause-on c = let why = why_is c.record_at-found.result _ _ c.in_default.is c.why_not.ensures c.record_at-found.ensures in (λ g e. reading_stops _ _ _ _ g _ _ _ c.loop-k.k (c.loop-k.invariant.3 g e) _ c.loop-k-test.true why)
+
+pub overflow_add-at : goal.overflow_add-at
+overflow_add-at c =
+    let there = told (ap record_says c.in-Is.is) c.record_at-found.ensures in
+    omega (arith, (record_found _ _ _ _ (sym there)).1)
+
+pub loop-k-preserved : goal.loop-k-preserved
+loop-k-preserved c =
+    let there = told (ap record_says c.in-Is.is) c.record_at-found.ensures in (
+      omega (arith, c.loop-k-test.true),
+      (record_found _ _ _ _ (sym there)).1,
+      search rules,
+      (λ g e.
+          reading_goes_on _ _ _ _ g _ _ _ c.loop-k.k (c.loop-k.invariant.3 g e) _ _ _ c.loop-k-test.true there
+          (ap (λ (w : Walk). w.records + c.loop-k.k) e) c.note.ensures),
+    )
+
+pub returns-clause-on : goal.returns-clause-on
+returns-clause-on c = let l = c.loop-k in
+    let a = c.args in
+    let all : l.k ≡ a.count = omega arith in (λ g e.
+          reading_ends _ _ _ _ g _ _ _ l.k (l.invariant.3 g e) _ all refl (ap (λ (w : Walk). w.records + a.count) e)
+          (ap (λ (w : Walk). w.segments) e) (ap (λ (w : Walk). w.first) e))
