@@ -1,47 +1,48 @@
-"""edits.py LOG [CRATE..]: every wrong program of crates/*/must-fail, or of these crates, is refused by a fact of its own.
+"""edits.py LOGS: tries each edit of crates/*/must-fail on a copy of the crates, and holds it against what the check says of it, which is left in
+LOGS/CRATE/EDIT/.log.
 
 An edit has one wrong program or several, each in another function: a line `wrong: NAME`, what is wrong with it, a line `refused: F`, and its
-replacements. F is the function that is not proved then, as a path of its crate, or a law or theorem. rt asks that the edit is refused, and LOG,
-what `rt ci` said, tells of each by what; here each of its wrong programs is: F is to be refused by a fact of its own, and not since something
-that it rests on is refused. A wrong program that LOG does not tell of is tried, alone, by `rt check` on a copy of its crate over the libraries
-that are built; with no such LOG all are. An edit that only makes a proof unfit for its code shows nothing, and is wrong too. Prints how many
-there are, how many of them change no code but a contract, how many a definition, how many were tried here, and what is wrong.
+replacements. F is the function that is not proved then, as a path of its crate, or a law or theorem. rt asks that the edit is refused; here
+each of its wrong programs is: F is to be refused by a fact of its own, and not since something that it rests on is refused. A function that the
+check does not come to, since it calls one that is refused, is tried with its wrong program alone: LOGS/CRATE/EDIT/NAME.log. An edit that only
+makes a proof unfit for its code shows nothing, and is wrong too. Prints how many there are, how many of them change no code but a contract,
+how many a definition, and what is wrong.
 """
+import concurrent.futures
 import glob
 import os
+import queue
 import re
 import shutil
 import subprocess
 import sys
 import tempfile
-from concurrent.futures import ThreadPoolExecutor
 
-ERROR = re.compile(r"^(?:\./)?([^\s:]+):(\d+):\d+: error: (?:`([^`]+)`: )?(.*)", re.M)
-OPEN = re.compile(r"^note: (?:\./)?(src/[^\s:]+):(\d+):\d+: it is not proved that ", re.M)
-TOLD = re.compile(r"^rt: must-fail (\w+)/(\S+)\.edit: refused, as it must be: ((?:note: )?\S+:\d+:\d+: .*)$", re.M)
-# what follows from another refusal, and what only says that a proof file names what is not there any more
-FOLLOWS = re.compile(r"`[^`]+` was not admitted")
-UNFIT = re.compile(r"has no field|is not in scope|has no `")
-PARTS = ("src", "specs", "proofs")
-MEMORY = 3  # GiB for one check
+ERROR = re.compile(r"^\./([^\s:]+):\d+:\d+: error: `([^`]+)`: (.*)", re.M)
+# what is said of a name that the edit took away, and of what rests on another
+UNFIT = re.compile(r"has no `|has no field|is not in scope|is no name")
+FOLLOWS = re.compile(r"was not admitted|was not checked")
+# what the check of a function says where it has goals that neither an answer nor `search` proves
+OPEN = re.compile(r"`search` did not prove ")
+AT_MOST = 4
 
 
 def programs(path: str) -> list[dict]:
-    """The wrong programs of an edit: each one's name, what refuses it, how many replacements it has, and these, each as a file, the old text and
-    the new. What stands before the first has no name."""
+    """The wrong programs of an edit: each one's name, what refuses it, and its replacements, each as a file, the old text and the new. What stands
+    before the first has no name."""
     found, where, old = [{"name": "", "refused": [], "pairs": []}], "", ""
     with open(path, encoding="utf-8") as file:
-        for line in file.read().split("\n"):
+        for line in file:
             if line.startswith("wrong:"):
                 found.append({"name": line[6:].strip(), "refused": [], "pairs": []})
             elif line.startswith("refused:"):
                 found[-1]["refused"].append(line[8:].strip())
             elif line.startswith("file: "):
-                where = line[6:].strip()
+                where = line[6:].rstrip("\n")
             elif line.startswith("old: "):
-                old = line[5:]
+                old = line[5:].rstrip("\n")
             elif line.startswith("new:"):
-                found[-1]["pairs"].append((where, old, line[4:].removeprefix(" ")))
+                found[-1]["pairs"].append((where, old, line[4:].rstrip("\n").removeprefix(" ")))
     return found if found[0]["refused"] or found[0]["pairs"] else found[1:]
 
 
@@ -56,132 +57,90 @@ def change(crate: str, where: str, old: str) -> str:
     return "contract" if re.match(r"(requires|ensures) ", line) else "import" if line.startswith("ghost use ") else "code"
 
 
-def edited(crate: str, program: dict) -> dict[str, str] | None:
-    """The texts of the files that a wrong program changes, or nothing where an old text does not stand there once."""
-    texts: dict[str, str] = {}
-    for where, old, new in program["pairs"]:
-        if where not in texts:
-            with open(f"crates/{crate}/{where}", encoding="utf-8") as file:
-                texts[where] = file.read()
-        if texts[where].count(old) != 1:
-            return None
-        texts[where] = texts[where].replace(old, new)
-    return texts
-
-
-def last(path: str) -> str:
-    return path.rsplit("::", maxsplit=1)[-1]
-
-
 def is_function(crate: str, what: str) -> bool:
     """Whether the crate's sources have a function of that name."""
     for path in glob.glob(f"crates/{crate}/src/**/*.rt", recursive=True):
         with open(path, encoding="utf-8") as file:
-            if re.search(rf"\bfn {re.escape(last(what))}\b", file.read()):
+            if re.search(rf"\bfn {re.escape(what.split('::')[-1])}\b", file.read()):
                 return True
     return False
 
 
-def within(crate: str, texts: dict[str, str], where: str, line: int) -> str:
-    """The function of a source that a line lies in, or stands right above."""
-    text = texts.get(where)
-    if text is None:
-        with open(f"crates/{crate}/{where}", encoding="utf-8") as file:
-            text = file.read()
-    heads = [(number, found[1]) for number, each in enumerate(text.split("\n"), 1) if (found := re.search(r"\bfn (\w+)", each.split("//")[0]))]
-    # a function's attributes stand above its head
-    lines = text.split("\n")
-    while line < len(lines) and lines[line - 1].strip().startswith(("#[", "//")):
-        line += 1
-    return ([name for number, name in heads if number <= line] or [""])[-1]
-
-
-def refused_itself(crate: str, what: str, texts: dict[str, str], log: str) -> bool:
-    """Whether the log has an error or an open goal of the function's own, or of the law or theorem, that does not follow from another."""
-    errors = [(path, int(line), name) for path, line, name, text in ERROR.findall(log) if not FOLLOWS.search(text) and not UNFIT.search(text)]
-    if not is_function(crate, what):
-        return any(name == what and path.startswith(("proofs/", "specs/")) for path, line, name in errors)
-    own = f"proofs/{what.replace('::', '/')}/"
-    opened = [(path, int(line)) for path, line in OPEN.findall(log)] + [(path, line) for path, line, name in errors if path.startswith("src/")]
-    return any(path.startswith(own) for path, line, name in errors) or any(
-        within(crate, texts, path, line) == last(what) for path, line in opened)
-
-
-def tried(crate: str, program: dict, texts: dict[str, str], room: str) -> str:
-    """What the check says of a copy of the crate with a wrong program in it: of the function that is to be refused, or of all."""
-    folder = f"{room}/crates/{crate}"
-    for part in PARTS:
-        shutil.rmtree(f"{folder}/{part}", ignore_errors=True)
-        if os.path.isdir(f"crates/{crate}/{part}"):
-            shutil.copytree(f"crates/{crate}/{part}", f"{folder}/{part}")
-    for where, text in texts.items():
-        with open(f"{folder}/{where}", "w", encoding="utf-8") as file:
-            file.write(text)
-    what = program["refused"][0]
-    only = ["--only", f"{crate}::{what}"] if is_function(crate, what) else []
-    done = subprocess.run(["rt", "check", "--jobs", "1", *only], cwd=folder, capture_output=True, text=True, errors="replace", check=False)
-    said = done.stdout + done.stderr
-    return said if done.returncode == 1 and re.search(r"^(logic=not-proved|only=)", said, re.M) else ""
-
-
-def copied(crate: str, room: str) -> None:
-    """A repository of a crate and of those below it, over the libraries that are built."""
-    with open("crates.txt", encoding="utf-8") as file:
-        rests = dict(line.split(":") for line in file.read().split("\n") if ":" in line.split("#")[0])
-    lines = {name.split()[0]: (name, rest.split()) for name, rest in rests.items()}
-    needed, due = [], [crate]
-    while due:
-        name = due.pop()
-        if name in lines and name not in needed:
-            needed.append(name)
-            due += lines[name][1]
-    with open(f"{room}/crates.txt", "w", encoding="utf-8") as file:
-        file.write("".join(f"{lines[name][0]}: {' '.join(lines[name][1])}\n" for name in needed))
-    os.mkdir(f"{room}/.git")
-    for name in needed:
-        for part in PARTS:
-            if os.path.isdir(f"crates/{name}/{part}"):
-                shutil.copytree(f"crates/{name}/{part}", f"{room}/crates/{name}/{part}")
-        if name != crate and os.path.isdir(f"crates/{name}/out/rlib"):
-            shutil.copytree(f"crates/{name}/out/rlib", f"{room}/crates/{name}/out/rlib", copy_function=linked)
+def copied(room: str) -> None:
+    """Puts the crates' texts into a folder of their own, where an edit changes nothing here, beside the libraries that are built."""
+    shutil.copytree("crates", f"{room}/crates", ignore=shutil.ignore_patterns("out", "must-fail"))
+    for library in glob.glob("crates/*/out/rlib"):
+        shutil.copytree(library, f"{room}/{library}", copy_function=linked)
+    for name in ("crates.txt", "HANDLES"):
+        if os.path.exists(name):
+            shutil.copyfile(name, f"{room}/{name}")
 
 
 def linked(one: str, other: str) -> None:
+    """What is built is written anew, and never where it stands: so a copy of it is a second name, where the folder allows that."""
     try:
         os.link(one, other)
     except OSError:
         shutil.copy2(one, other)
 
 
-def faults(crate: str, edit: str, found: list[dict]) -> list[str]:
-    """What is wrong with an edit, before any is tried."""
+def said(room: str, crate: str, found: list[dict], log: str) -> str:
+    """What the check says of a crate with these wrong programs in the copy, which is left in a log too: nothing, if a replacement cannot be made."""
+    texts = {}
+    for where, old, new in [pair for program in found for pair in program["pairs"]]:
+        with open(f"crates/{crate}/{where}", encoding="utf-8") as file:
+            text = texts.get(where) or file.read()
+        if text.count(old) != 1:
+            return ""
+        texts[where] = text.replace(old, new)
+    try:
+        for where, text in texts.items():
+            with open(f"{room}/crates/{crate}/{where}", "w", encoding="utf-8") as file:
+                file.write(text)
+        both = {"stdout": subprocess.PIPE, "stderr": subprocess.STDOUT, "encoding": "utf-8", "errors": "replace"}
+        ran = subprocess.run(["rt", "check", "--jobs", "1"], cwd=f"{room}/crates/{crate}", stdin=subprocess.DEVNULL, check=False, **both)
+    finally:
+        for where in texts:
+            shutil.copyfile(f"crates/{crate}/{where}", f"{room}/crates/{crate}/{where}")
+    os.makedirs(os.path.dirname(log), exist_ok=True)
+    with open(log, "w", encoding="utf-8") as file:
+        file.write(ran.stdout)
+    return ran.stdout
+
+
+def refused_itself(crate: str, what: str, log: str) -> bool:
+    """Whether the log has an error of the function's own facts, or of the law or theorem, that does not follow from another."""
+    errors = [(path, name) for path, name, text in ERROR.findall(log) if not FOLLOWS.search(text) and not UNFIT.search(text)]
+    if not is_function(crate, what):
+        return what in [name for path, name in errors]
+    told = re.search(rf"^fn {crate}::{re.escape(what)}: (.*)", log, re.M)
+    if not told or told.group(1) == "proved":
+        return False
+    # a fact is a goal, or what an invariant or a measure says
+    own = [name for path, name in errors if path.startswith(f"proofs/{what.replace('::', '/')}/")]
+    return bool(OPEN.search(told.group(1)) or own)
+
+
+def faults(room: str, logs: str, crate: str, edit: str) -> list[str]:
+    """What is wrong with an edit."""
+    found = programs(f"crates/{crate}/must-fail/{edit}.edit")
     wrong = [f"{crate}/{edit} names no wrong program"] if not found else []
+    log = said(room, crate, found, f"{logs}/{crate}/{edit}/.log")
+    if "\nlogic=not-proved" not in log:
+        return wrong + [f"{crate}/{edit} was not tried to an end, or is proved"]
+    if any(UNFIT.search(text) for path, name, text in ERROR.findall(log)):
+        wrong.append(f"{crate}/{edit} makes a proof unfit for its code")
     refusing = [what for program in found for what in program["refused"]]
     if len(set(refusing)) < len(refusing):
         wrong.append(f"{crate}/{edit} has two wrong programs in one function")
     for program in found:
-        if not re.fullmatch(r"[a-z0-9_]+", program["name"]) or len(program["refused"]) != 1 or not program["pairs"]:
-            wrong.append(f"{crate}/{edit}: '{program['name']}' lacks its name, what refuses it or a replacement")
-        elif edited(crate, program) is None:
-            wrong.append(f"{crate}/{edit}: an old text of {program['name']} does not stand once in its file")
-    return wrong
-
-
-def untold(crate: str, found: list[dict], told: str) -> list[dict]:
-    """The wrong programs of an edit that what rt said of it does not tell of."""
-    texts = edited(crate, {"pairs": [pair for program in found for pair in program["pairs"]]}) or {}
-    return [program for program in found if not refused_itself(crate, program["refused"][0], texts, told)]
-
-
-def refused_alone(crate: str, due: list[tuple[str, dict]]) -> list[str]:
-    """The wrong programs among these, each with its edit, that are not refused by a fact of their own when they are tried alone."""
-    wrong = []
-    with tempfile.TemporaryDirectory() as room:
-        copied(crate, room)
-        for edit, program in due:
-            texts, what = edited(crate, program), program["refused"][0]
-            if not refused_itself(crate, what, texts, tried(crate, program, texts, room)):
-                wrong.append(f"{crate}/{program['name']}: {what} is not refused by a fact of its own in {edit}")
+        name, refused = program["name"], program["refused"]
+        if not re.fullmatch(r"[a-z0-9_]+", name) or len(refused) != 1 or not program["pairs"]:
+            wrong.append(f"{crate}/{edit}: '{name}' lacks its name, what refuses it or a replacement")
+        elif not refused_itself(crate, refused[0], log) and (
+            len(found) == 1 or not refused_itself(crate, refused[0], said(room, crate, [program], f"{logs}/{crate}/{edit}/{name}.log"))
+        ):
+            wrong.append(f"{crate}/{name}: {refused[0]} is not refused by a fact of its own in {edit}")
     return wrong
 
 
@@ -195,7 +154,7 @@ def report(part: str, found: str, wrong: list[str], some: bool) -> int:
 
 def counted() -> str:
     """How many wrong programs there are, and how many of them change a contract alone, or a definition."""
-    changes = [{change(path.split("/")[1], where, old) for where, old, _ in program["pairs"]} for path in every() for program in programs(path)]
+    changes = [{change(path.split("/")[1], *pair[:2]) for pair in program["pairs"]} for path in every() for program in programs(path)]
     contracts = sum("contract" in kinds and kinds <= {"contract", "import"} for kinds in changes)
     definitions = sum("definition" in kinds for kinds in changes)
     return f"{len(changes)} wrong programs, {contracts} of them in a contract alone and {definitions} in a definition"
@@ -205,37 +164,32 @@ def every() -> list[str]:
     return sorted(glob.glob("crates/*/must-fail/*.edit"))
 
 
-def lanes() -> int:
-    """How many checks run at a time."""
-    room = os.sysconf("SC_PAGE_SIZE") * os.sysconf("SC_AVPHYS_PAGES") >> 30
-    return max(1, min(os.cpu_count() or 1, room // MEMORY))
+def tried(logs: str, room: str) -> list[str]:
+    """What is wrong with the edits, of which as many are tried at once as there are processors. Each crate's are tried in one copy."""
+    rooms, crates = queue.Queue(), sorted({path.split("/")[1] for path in every()}, key=lambda it: -len(glob.glob(f"crates/{it}/must-fail/*.edit")))
+    many = min(AT_MOST, os.cpu_count() or 1)
+    for number in range(many):
+        copied(f"{room}/{number}")
+        rooms.put(f"{room}/{number}")
+
+    def of_crate(crate: str) -> list[str]:
+        place = rooms.get()
+        try:
+            return [fault for path in every() if path.split("/")[1] == crate for fault in faults(place, logs, crate, path.split("/")[3][:-5])]
+        finally:
+            rooms.put(place)
+
+    with concurrent.futures.ThreadPoolExecutor(many) as lanes:
+        return sorted(fault for wrong in lanes.map(of_crate, crates) for fault in wrong)
 
 
 def main() -> int:
-    log, crates = "", sys.argv[2:]
-    if os.path.isfile(sys.argv[1]):
-        with open(sys.argv[1], encoding="utf-8") as file:
-            log = file.read()
-    told = {(crate, edit): said + "\n" for crate, edit, said in TOLD.findall(log)}
-    wrong, names, edits, due = [], [], 0, {}
-    for path in every():
-        crate, edit = path.split("/")[1], path.split("/")[3][:-5]
-        if crates and crate not in crates:
-            continue
-        found = programs(path)
-        edits += 1
-        names += [f"{crate}/{program['name']}" for program in found]
-        bad = faults(crate, edit, found)
-        wrong += bad
-        if not bad:
-            due.setdefault(crate, []).extend((edit, program) for program in untold(crate, found, told.get((crate, edit), "")))
-    due = {crate: some for crate, some in sorted(due.items(), key=lambda each: -len(each[1])) if some}
-    with ThreadPoolExecutor(lanes()) as pool:
-        for some in pool.map(lambda each: refused_alone(*each), due.items()):
-            wrong += some
+    shutil.rmtree(sys.argv[1], ignore_errors=True)
+    with tempfile.TemporaryDirectory(prefix="edits-") as room:
+        wrong = tried(sys.argv[1], room)
+    names = [f"{path.split('/')[1]}/{program['name']}" for path in every() for program in programs(path)]
     wrong += [f"{name} is there twice" for name in sorted(set(names)) if names.count(name) > 1]
-    how = f"by {edits} edits, {sum(map(len, due.values()))} tried alone"
-    return report("edits", f"{counted() if not crates else f'{len(names)} wrong programs'}, {how}", wrong, bool(names))
+    return report("edits", f"{counted()}, by {len(every())} edits", wrong, bool(names))
 
 
 if __name__ == "__main__":

@@ -1,6 +1,7 @@
 // The line that the program `list` prints for a file, written into a lent buffer. Rests on tally, on refusals and tables, and on io for a
 // number's digits.
 #![tactic(auto)]
+
 ghost use Rattle.std.specs.Prelude.{◌≡◌, ◌+◌, ◌≤◌, length};
 ghost use Rattle.io.specs.Counts.{IsPrefixLen};
 ghost use Rattle.refusals.specs.Numbers.{record_refusals};

@@ -1,43 +1,45 @@
 // The bench's examples on the code, what detection says of types 8 to 255, and the listing's lines: a line each. What the examples say of the
 // definitions is in specs/, and that it holds in proofs/. Rests on every crate that an example speaks of.
 #![tactic(auto)]
+
 ghost use Rattle.std.specs.Prelude.{◌≡◌, ◌≤◌, length};
 
 use blocks::FilePlace;
 use detect::{AudioFormat, Kind};
 use sp::Demuxed;
+use std::io;
 use test_samples::shown::{number, show, show_record_refusal, show_refusal, text, word};
 use test_samples::{ds2_file, long_records, two_blocks};
 
 // The listing's lines.
 mod lines;
 
-fn show_answer(answer: Demuxed) {
+fn show_answer(rt: &impl Print, answer: Demuxed) -> io::Result<()> {
     match answer {
         Demuxed::Packets(n) => {
-            number(n);
-            text(b" packets");
+            number(rt, n)?;
+            text(rt, b" packets")
         }
-        Demuxed::Refused(why) => show_refusal(why),
+        Demuxed::Refused(why) => show_refusal(rt, why),
     }
 }
 
 // What the DS2 SP reading says of a file's first n bytes, with no room for any packet.
-fn show_reading(file: [u8; 4096], n: usize)
+fn show_reading(rt: &impl Print, file: [u8; 4096], n: usize) -> io::Result<()>
     requires { (length file ≡ 4096) × (n ≤ 4096) }
 {
     let mut out = [0u8; 0];
     let mut counts = [0u8; 0];
-    show_answer(sp::demux_ds2(&file[0..n], &mut out, &mut counts));
+    show_answer(rt, sp::demux_ds2(&file[0..n], &mut out, &mut counts))
 }
 
 // 1: a bare header is empty, a cut one is refused.
-fn example_1() {
-    text(b"1: 1536 bytes");
-    show_reading(ds2_file(1, 0, 0), 1536);
-    text(b", 1535");
-    show_reading(ds2_file(1, 0, 0), 1535);
-    text(b"\n");
+fn example_1(rt: &impl Print) -> io::Result<()> {
+    text(rt, b"1: 1536 bytes")?;
+    show_reading(rt, ds2_file(1, 0, 0), 1536)?;
+    text(rt, b", 1535")?;
+    show_reading(rt, ds2_file(1, 0, 0), 1535)?;
+    text(rt, b"\n")
 }
 
 // How many segments a QP file of two blocks has, and none where it is refused.
@@ -71,49 +73,49 @@ fn counts_with(count: u8, byte1: u8, many: usize) -> usize {
 }
 
 // The first segment of two blocks, the second of which does not follow.
-fn show_segment() {
+fn show_segment(rt: &impl Print) -> io::Result<()> {
     let mut table = [0u32; 2 * qp::ENTRY];
     segments(two_blocks(9, 3, 9), &mut table);
-    word(table[0]);
-    word(table[1]);
-    word(table[2]);
-    word(table[3]);
+    word(rt, table[0])?;
+    word(rt, table[1])?;
+    word(rt, table[2])?;
+    word(rt, table[3])
 }
 
 // 2: a second block that follows the first, and one that does not.
-fn example_2() {
-    text(b"2: after 10 frames and 30, one segment for");
-    number(counts_with(10, 30, 1));
-    text(b" counts; after 9 and 3, two for");
-    number(counts_with(9, 3, 2));
-    text(b" and one for");
-    number(counts_with(9, 3, 1));
-    text(b", first");
-    show_segment();
-    text(b"\n");
+fn example_2(rt: &impl Print) -> io::Result<()> {
+    text(rt, b"2: after 10 frames and 30, one segment for")?;
+    number(rt, counts_with(10, 30, 1))?;
+    text(rt, b" counts; after 9 and 3, two for")?;
+    number(rt, counts_with(9, 3, 2))?;
+    text(rt, b" and one for")?;
+    number(rt, counts_with(9, 3, 1))?;
+    text(rt, b", first")?;
+    show_segment(rt)?;
+    text(rt, b"\n")
 }
 
 // 3: the same after a scan that finds no good header.
-fn example_3() {
-    text(b"3: 4095 bytes");
-    show_reading(ds2_file(7, 0, 0), 4095);
-    text(b", 4096");
-    show_reading(ds2_file(7, 0, 0), 4096);
-    text(b"\n");
+fn example_3(rt: &impl Print) -> io::Result<()> {
+    text(rt, b"3: 4095 bytes")?;
+    show_reading(rt, ds2_file(7, 0, 0), 4095)?;
+    text(rt, b", 4096")?;
+    show_reading(rt, ds2_file(7, 0, 0), 4096)?;
+    text(rt, b"\n")
 }
 
 // 4: how the packet of a swapped read begins and ends.
-fn example_4() {
+fn example_4(rt: &impl Print) -> io::Result<()> {
     let read = test_samples::rising();
     let bytes = packets::packet_bytes(&read, 0, true, 99);
-    text(b"4: a swapped packet begins");
-    show(&bytes, 0, 6);
-    text(b" and ends");
-    show(&bytes, 38, 4);
-    text(b"\n");
+    text(rt, b"4: a swapped packet begins")?;
+    show(rt, &bytes, 0, 6)?;
+    text(rt, b" and ends")?;
+    show(rt, &bytes, 38, 4)?;
+    text(rt, b"\n")
 }
 
-fn show_records(file: [u8; 4096])
+fn show_records(rt: &impl Print, file: [u8; 4096]) -> io::Result<()>
     requires { length file ≡ 4096 }
 {
     let mut records = [0u32; 16];
@@ -121,20 +123,20 @@ fn show_records(file: [u8; 4096])
     let answer = qp7::demux_ds2_qp7(&file[0..2048], &mut records, &mut segments);
     match answer {
         qp7::Demuxed::Tables(totals) => {
-            number(totals.records);
-            text(b" records");
+            number(rt, totals.records)?;
+            text(rt, b" records")
         }
-        qp7::Demuxed::Refused(why) => show_record_refusal(why),
+        qp7::Demuxed::Refused(why) => show_record_refusal(rt, why),
     }
 }
 
 // 5: a tenth record that is cut, and one that is not there.
-fn example_5() {
-    text(b"5: byte 1 = 3");
-    show_records(long_records(3));
-    text(b", 4");
-    show_records(long_records(4));
-    text(b"\n");
+fn example_5(rt: &impl Print) -> io::Result<()> {
+    text(rt, b"5: byte 1 = 3")?;
+    show_records(rt, long_records(3))?;
+    text(rt, b", 4")?;
+    show_records(rt, long_records(4))?;
+    text(rt, b"\n")
 }
 
 fn sum(counts: &[u8; 13]) -> usize {
@@ -148,32 +150,32 @@ fn sum(counts: &[u8; 13]) -> usize {
 }
 
 // One block, flag 0, that announces 13 packets.
-fn show_block(file: [u8; 4096], counts: &mut [u8])
+fn show_block(rt: &impl Print, file: [u8; 4096], counts: &mut [u8]) -> io::Result<()>
     requires { length file ≡ 4096 }
 {
     let mut out = [0u8; 546];
-    show_answer(sp::demux_ds2(&file[0..2048], &mut out, counts));
+    show_answer(rt, sp::demux_ds2(&file[0..2048], &mut out, counts))
 }
 
 // 6: the last of those has 14 bytes of the file.
-fn example_6() {
+fn example_6(rt: &impl Print) -> io::Result<()> {
     let mut counts = [0u8; 13];
-    text(b"6: one block");
-    show_block(ds2_file(1, 13, 0), &mut counts);
-    text(b", the last has");
-    number(tables::wide(counts[12]));
-    text(b" file bytes, all have");
-    number(sum(&counts));
-    text(b"\n");
+    text(rt, b"6: one block")?;
+    show_block(rt, ds2_file(1, 13, 0), &mut counts)?;
+    text(rt, b", the last has")?;
+    number(rt, tables::wide(counts[12]))?;
+    text(rt, b" file bytes, all have")?;
+    number(rt, sum(&counts))?;
+    text(rt, b"\n")
 }
 
 // 7: DSS starts in block 0.
-fn example_7() {
-    text(b"7: DSS starts");
-    number(packets::dss_start(0, 255, true).0);
-    number(packets::dss_start(0, 2, true).0);
-    number(packets::dss_start(0, 3, true).0);
-    text(b"\n");
+fn example_7(rt: &impl Print) -> io::Result<()> {
+    text(rt, b"7: DSS starts")?;
+    number(rt, packets::dss_start(0, 255, true).0)?;
+    number(rt, packets::dss_start(0, 2, true).0)?;
+    number(rt, packets::dss_start(0, 3, true).0)?;
+    text(rt, b"\n")
 }
 
 fn is_reported_sp(file: &[u8]) -> bool {
@@ -217,16 +219,16 @@ fn reported_otherwise() -> usize {
     n
 }
 
-fn main() {
-    example_1();
-    example_2();
-    example_3();
-    example_4();
-    example_5();
-    example_6();
-    example_7();
-    text(b"types reported as SP and read as QP:");
-    number(reported_otherwise());
-    text(b"\n");
-    lines::show_lines();
+fn main(rt: HostRuntime) -> io::Result<()> {
+    example_1(&rt)?;
+    example_2(&rt)?;
+    example_3(&rt)?;
+    example_4(&rt)?;
+    example_5(&rt)?;
+    example_6(&rt)?;
+    example_7(&rt)?;
+    text(&rt, b"types reported as SP and read as QP:")?;
+    number(&rt, reported_otherwise())?;
+    text(&rt, b"\n")?;
+    lines::show_lines(&rt)
 }

@@ -1,7 +1,8 @@
 // The list of vectors: numbers in text, and what is expected against what came. All of it is for the crates above. Rests on test_tools,
-// and on io for the lines that it writes.
+// and on the standard library for the lines that it writes.
 #![tactic(auto)]
-use libc::STDOUT_FILENO;
+
+use std::io;
 use test_tools::say;
 
 // The file that numbers of the list make.
@@ -113,34 +114,41 @@ pub fn read_to(seen: Seen, at: usize) -> Seen {
 }
 
 // Holds an answer to the next number of the list.
-pub fn expect(list: &[u8], seen: Seen, got: u64) -> Seen {
+pub fn expect(rt: &impl Print, list: &[u8], seen: Seen, got: u64) -> io::Result<Seen> {
     let number = next(list, seen.at);
     let answer = std::num::wrapping_add_u64(seen.answer, 1);
-    let wrong = test_tools::differs(b"case ", seen.case, answer, number.value, got);
-    Seen {
+    let wrong = test_tools::differs(rt, b"case ", seen.case, answer, number.value, got)?;
+    Ok(Seen {
         at: number.at,
         case: seen.case,
         answer,
         answers: test_tools::sum(seen.answers, 1),
         wrong: test_tools::sum(seen.wrong, wrong),
-    }
+    })
 }
 
 // Holds some of the numbers that came to the next ones of the list, one after another.
-pub fn expect_all(list: &[u8], before: Seen, got: &[u64], from: usize, to: usize) -> Seen {
+pub fn expect_all(
+    rt: &impl Print,
+    list: &[u8],
+    before: Seen,
+    got: &[u64],
+    from: usize,
+    to: usize,
+) -> io::Result<Seen> {
     let mut seen = before;
     let mut k = from;
     while k < to {
-        seen = expect(list, seen, test_tools::number(got, k));
+        seen = expect(rt, list, seen, test_tools::number(got, k))?;
         k += 1;
     }
-    seen
+    Ok(seen)
 }
 
 // The line at the end.
-pub fn conclude(seen: Seen) {
-    say(b"cases ", seen.case);
-    say(b", answers ", seen.answers as u64);
-    say(b", wrong ", seen.wrong as u64);
-    io::write_all(STDOUT_FILENO, b"\n");
+pub fn conclude(rt: &impl Print, seen: Seen) -> io::Result<()> {
+    say(rt, b"cases ", seen.case)?;
+    say(rt, b", answers ", seen.answers as u64)?;
+    say(rt, b", wrong ", seen.wrong as u64)?;
+    rt.write_all(b"\n")
 }

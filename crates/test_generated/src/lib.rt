@@ -1,6 +1,7 @@
 // Files from a number: SP recordings of both families, QP and QP7, most of them of under twelve blocks, some of under forty, and
 // part of one more. All of it is for the crates above. Rests on test_tools.
 #![tactic(auto)]
+
 use test_tools::{below, noise, set};
 
 // How files are cut.

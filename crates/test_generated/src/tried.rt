@@ -1,6 +1,6 @@
 // What was tried of the files, and lines that say it. Rests on the rest of this crate and on test_tools.
 use crate::Made;
-use libc::STDOUT_FILENO;
+use std::io;
 use test_tools::{Cuts, say, sum};
 
 // What was tried: files, cuts, packets by pieces, frames and records; refused pieces (by 7) and refused files; and disagreements.
@@ -29,15 +29,15 @@ pub fn none() -> Tried {
 }
 
 // The line at the end.
-pub fn conclude(tried: Tried) {
-    say(b"files ", tried.files as u64);
-    say(b", cuts ", tried.cuts as u64);
-    say(b", packets in pieces ", tried.packets as u64);
-    say(b", frames and records ", tried.entries as u64);
-    say(b", refused pieces ", tried.sevens as u64);
-    say(b", refused files ", tried.refused as u64);
-    say(b", wrong ", tried.wrong as u64);
-    io::write_all(STDOUT_FILENO, b"\n");
+pub fn conclude(rt: &impl Print, tried: Tried) -> io::Result<()> {
+    say(rt, b"files ", tried.files as u64)?;
+    say(rt, b", cuts ", tried.cuts as u64)?;
+    say(rt, b", packets in pieces ", tried.packets as u64)?;
+    say(rt, b", frames and records ", tried.entries as u64)?;
+    say(rt, b", refused pieces ", tried.sevens as u64)?;
+    say(rt, b", refused files ", tried.refused as u64)?;
+    say(rt, b", wrong ", tried.wrong as u64)?;
+    rt.write_all(b"\n")
 }
 
 // A file more, of which so much is handed out, if it is not refused.
@@ -70,10 +70,10 @@ pub fn with_cut(tried: Tried, packets: u64, refusal: u64, wrong: usize) -> Tried
 }
 
 // A line that says how the file of the lines before was cut.
-pub fn show_cuts(number: u64, cuts: Cuts) {
-    say(b"that was file ", number);
-    say(b", cut at ", cuts.first as u64);
-    say(b" and ", cuts.second as u64);
-    say(b", step ", cuts.step as u64);
-    io::write_all(STDOUT_FILENO, b"\n");
+pub fn show_cuts(rt: &impl Print, number: u64, cuts: Cuts) -> io::Result<()> {
+    say(rt, b"that was file ", number)?;
+    say(rt, b", cut at ", cuts.first as u64)?;
+    say(rt, b" and ", cuts.second as u64)?;
+    say(rt, b", step ", cuts.step as u64)?;
+    rt.write_all(b"\n")
 }

@@ -4,6 +4,7 @@ use crate::making::next_index;
 use finding::Found;
 use index::{Built, Read};
 use refusals::Refusal;
+use std::io;
 use test_expected::making::next_case;
 use test_expected::{Seen, expect, expect_all};
 
@@ -61,29 +62,43 @@ fn found_said(answer: Found) -> [u64; 5] {
 }
 
 // Building, with so much lent: its answer, and a digest of all that was lent.
-fn build(list: &[u8], before: Seen, file: &[u8], out: &mut [u8]) -> Seen {
+fn build(
+    rt: &impl Print,
+    list: &[u8],
+    before: Seen,
+    file: &[u8],
+    out: &mut [u8],
+) -> io::Result<Seen> {
     let said = built_said(index::build_index(file, out));
-    let seen = expect_all(list, before, &said, 0, 4);
-    expect(list, seen, test_tools::digest(0, out, out.len()))
+    let seen = expect_all(rt, list, before, &said, 0, 4)?;
+    expect(rt, list, seen, test_tools::digest(0, out, out.len()))
 }
 
 // Lends so many bytes for an index, and no more than there are.
-fn built(list: &[u8], before: Seen, file: &[u8], lent: u64) -> Seen {
+fn built(rt: &impl Print, list: &[u8], before: Seen, file: &[u8], lent: u64) -> io::Result<Seen> {
     let mut out = [165u8; 4096];
     let bytes = tables::lesser(lent as usize, 4096);
-    build(list, before, file, &mut out[0..bytes])
+    build(rt, list, before, file, &mut out[0..bytes])
 }
 
 // Reading an index, and finding the entry for a packet by it.
-fn by_index(list: &[u8], before: Seen, file: &[u8], index: &[u8], number: u64) -> Seen {
+fn by_index(
+    rt: &impl Print,
+    list: &[u8],
+    before: Seen,
+    file: &[u8],
+    index: &[u8],
+    number: u64,
+) -> io::Result<Seen> {
     let read = read_said(index::read_index(file, index));
     let found = found_said(finding::find_entry(file, index, number as usize));
-    let seen = expect_all(list, before, &read, 0, 4);
-    expect_all(list, seen, &found, 0, 5)
+    let seen = expect_all(rt, list, before, &read, 0, 4)?;
+    expect_all(rt, list, seen, &found, 0, 5)
 }
 
 // A packet by an index, with so much lent.
 fn called(
+    rt: &impl Print,
     list: &[u8],
     before: Seen,
     file: &[u8],
@@ -91,19 +106,27 @@ fn called(
     number: u64,
     out: &mut [u8],
     counts: &mut [u8],
-) -> Seen {
+) -> io::Result<Seen> {
     let answer = finding::dss_packet(file, index, number as usize, out, counts);
     let said = test_sums::left(answer, out, counts);
-    expect_all(list, before, &said, 0, 5)
+    expect_all(rt, list, before, &said, 0, 5)
 }
 
 // Lends as much as the case says, and no more than there is.
-fn in_room(list: &[u8], before: Seen, case: [u64; 16], file: &[u8], index: &[u8]) -> Seen {
+fn in_room(
+    rt: &impl Print,
+    list: &[u8],
+    before: Seen,
+    case: [u64; 16],
+    file: &[u8],
+    index: &[u8],
+) -> io::Result<Seen> {
     let mut out = [165u8; 256];
     let mut counts = [165u8; 128];
     let bytes = tables::lesser(case[OUT] as usize, 256);
     let many = tables::lesser(case[COUNTS] as usize, 128);
     called(
+        rt,
         list,
         before,
         file,
@@ -115,25 +138,38 @@ fn in_room(list: &[u8], before: Seen, case: [u64; 16], file: &[u8], index: &[u8]
 }
 
 // All answers of a case.
-fn answers(list: &[u8], before: Seen, case: [u64; 16], file: &[u8], index: &[u8]) -> Seen {
-    let mut seen = built(list, before, file, case[FOR_INDEX]);
-    seen = by_index(list, seen, file, index, case[WHICH]);
-    in_room(list, seen, case, file, index)
+fn answers(
+    rt: &impl Print,
+    list: &[u8],
+    before: Seen,
+    case: [u64; 16],
+    file: &[u8],
+    index: &[u8],
+) -> io::Result<Seen> {
+    let mut seen = built(rt, list, before, file, case[FOR_INDEX])?;
+    seen = by_index(rt, list, seen, file, index, case[WHICH])?;
+    in_room(rt, list, seen, case, file, index)
 }
 
 // With its index.
-fn with_index(list: &[u8], before: Seen, case: [u64; 16], file: &[u8]) -> Seen {
+fn with_index(
+    rt: &impl Print,
+    list: &[u8],
+    before: Seen,
+    case: [u64; 16],
+    file: &[u8],
+) -> io::Result<Seen> {
     let mut space = [0u8; 4096];
     let laid = next_index(list, before, &mut space);
     let long = tables::lesser(laid.long, 4096);
-    answers(list, laid.seen, case, file, &space[0..long])
+    answers(rt, list, laid.seen, case, file, &space[0..long])
 }
 
 // The next case of the list, with its file.
-pub fn one_case(list: &[u8], before: Seen) -> Seen {
+pub fn one_case(rt: &impl Print, list: &[u8], before: Seen) -> io::Result<Seen> {
     let mut space = [0u8; 135168];
     let case = next_case(list, before, ASKED, &mut space);
     let asked = case.asked;
     let long = tables::lesser(case.long, 135168);
-    with_index(list, case.seen, asked, &space[0..long])
+    with_index(rt, list, case.seen, asked, &space[0..long])
 }

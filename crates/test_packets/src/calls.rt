@@ -1,5 +1,6 @@
 // One case: its file is made, a packet of it is asked for by its number, and what the call answers and leaves is held to the list. Rests on
 // at_once, on test_expected and test_sums, and on tables.
+use std::io;
 use test_expected::Seen;
 use test_expected::making::next_case;
 
@@ -14,25 +15,33 @@ const ASKED: usize = 3;
 
 // The call, with so much lent.
 fn called(
+    rt: &impl Print,
     list: &[u8],
     before: Seen,
     file: &[u8],
     number: u64,
     out: &mut [u8],
     counts: &mut [u8],
-) -> Seen {
+) -> io::Result<Seen> {
     let answer = at_once::ds2_sp_packet(file, number as usize, out, counts);
     let said = test_sums::left(answer, out, counts);
-    test_expected::expect_all(list, before, &said, 0, 5)
+    test_expected::expect_all(rt, list, before, &said, 0, 5)
 }
 
 // Lends as much as the case says, and no more than there is.
-fn in_room(list: &[u8], before: Seen, case: [u64; 16], file: &[u8]) -> Seen {
+fn in_room(
+    rt: &impl Print,
+    list: &[u8],
+    before: Seen,
+    case: [u64; 16],
+    file: &[u8],
+) -> io::Result<Seen> {
     let mut out = [165u8; 256];
     let mut counts = [165u8; 128];
     let bytes = tables::lesser(case[OUT] as usize, 256);
     let many = tables::lesser(case[COUNTS] as usize, 128);
     called(
+        rt,
         list,
         before,
         file,
@@ -43,10 +52,10 @@ fn in_room(list: &[u8], before: Seen, case: [u64; 16], file: &[u8]) -> Seen {
 }
 
 // The next case of the list, with its file.
-pub fn one_case(list: &[u8], before: Seen) -> Seen {
+pub fn one_case(rt: &impl Print, list: &[u8], before: Seen) -> io::Result<Seen> {
     let mut space = [0u8; 67584];
     let case = next_case(list, before, ASKED, &mut space);
     let asked = case.asked;
     let long = tables::lesser(case.long, 67584);
-    in_room(list, case.seen, asked, &space[0..long])
+    in_room(rt, list, case.seen, asked, &space[0..long])
 }

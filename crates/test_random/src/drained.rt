@@ -1,6 +1,7 @@
 // One file in pieces: what a reader hands out that is fed it and drained, against the file's whole reading. Rests on reader,
 // test_feeding, test_ends, test_generated, test_readings, test_sums and test_tools.
 use reader::{Reader, STRICT};
+use std::io;
 use test_ends::{drained_by_64, end_said};
 use test_generated::Made;
 use test_generated::tried::{Tried, show_cuts, with_cut};
@@ -52,7 +53,13 @@ fn strict_number(cut: usize, owed: usize) -> u64 {
 
 // A reader that took the whole file and was drained: nothing announced goes uncounted before the end, there is no third end, the strict one tells
 // the bytes inside a block or the frames owed, and all packets are the whole reading's after it.
-fn end_differs(number: u64, cut: usize, whole: Whole, drained: ToTheEnd) -> usize {
+fn end_differs(
+    rt: &impl Print,
+    number: u64,
+    cut: usize,
+    whole: Whole,
+    drained: ToTheEnd,
+) -> io::Result<usize> {
     let came = drained.came;
     let neither = drained.neither;
     let strict = drained.strict;
@@ -78,22 +85,29 @@ fn end_differs(number: u64, cut: usize, whole: Whole, drained: ToTheEnd) -> usiz
         all[test_sums::BYTES],
         all[test_sums::COUNTS],
     ];
-    test_tools::all_differ(b"pieces of file ", number, &expected, &got, 8)
+    test_tools::all_differ(rt, b"pieces of file ", number, &expected, &got, 8)
 }
 
 // How many answers to a file cut in one way are not the whole reading's. Only a DS2 piece may be refused, and only by 7.
-fn cut_differs(number: u64, made: Made, whole: Whole, drained: ToTheEnd) -> usize {
+fn cut_differs(
+    rt: &impl Print,
+    number: u64,
+    made: Made,
+    whole: Whole,
+    drained: ToTheEnd,
+) -> io::Result<usize> {
     let came = drained.came;
     let refusal = came[test_sums::NUMBER];
     if refusal != 0 {
         let seven = if made.kind == 0 { 7 } else { 0 };
-        return test_tools::differs(b"refused piece of file ", number, 1, seven, refusal);
+        return test_tools::differs(rt, b"refused piece of file ", number, 1, seven, refusal);
     }
-    end_differs(number, made.cut, whole, drained)
+    end_differs(rt, number, made.cut, whole, drained)
 }
 
 // One file cut in one way.
 pub fn try_cut(
+    rt: &impl Print,
     before: Tried,
     number: u64,
     file: &[u8],
@@ -102,17 +116,17 @@ pub fn try_cut(
     cuts: Cuts,
     out: &mut [u8],
     counts: &mut [u8],
-) -> Tried {
+) -> io::Result<Tried> {
     let drained = drained(made.kind, file, cuts, out, counts);
     let came = drained.came;
-    let wrong = cut_differs(number, made, whole, drained);
+    let wrong = cut_differs(rt, number, made, whole, drained)?;
     if wrong != 0 {
-        show_cuts(number, cuts);
+        show_cuts(rt, number, cuts)?;
     }
-    with_cut(
+    Ok(with_cut(
         before,
         came[test_sums::PACKETS],
         came[test_sums::NUMBER],
         wrong,
-    )
+    ))
 }

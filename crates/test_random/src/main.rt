@@ -2,6 +2,8 @@
 // recordings, three-piece cuts around the edges of blocks, and many files with random cuts. One line with counts; each disagreement gets a
 // line of its own. Rests on all the calls, and on test_generated, test_readings, test_feeding, test_ends and what these share.
 #![tactic(auto)]
+
+use std::io;
 use test_generated::tried::{conclude, none};
 
 // One file, fed and drained.
@@ -15,8 +17,9 @@ fn room() -> [u8; 430080] {
     [0u8; 430080]
 }
 
-fn main() {
+fn main(rt: HostRuntime) -> io::Result<()> {
     let mut out = room();
     let mut counts = [0u8; 10240];
-    conclude(cuts::all(none(), &mut out, &mut counts));
+    let tried = cuts::all(&rt, none(), &mut out, &mut counts)?;
+    conclude(&rt, tried)
 }

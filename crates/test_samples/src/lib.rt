@@ -1,5 +1,7 @@
-// Files of which the examples speak, and how what is found in them is shown. For the programs above. Rests on tables, refusals and io.
+// Files of which the examples speak, and how what is found in them is shown. For the programs above. Rests on tables, refusals and the
+// standard library.
 #![tactic(auto)]
+
 ghost use Rattle.std.specs.Prelude.{◌≡◌, length};
 
 // Words and numbers.

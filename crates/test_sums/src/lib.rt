@@ -1,5 +1,6 @@
 // What SP calls answered and handed out, in numbers. All of it is for the crates above. Rests on sp and test_tools.
 #![tactic(auto)]
+
 use sp::Demuxed;
 use test_tools::{digest, digest_past, packet_bytes};
 

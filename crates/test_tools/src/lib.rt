@@ -1,8 +1,12 @@
 // What the testing programs share: noise that files are filled with, digests of what was handed out, and lines. A test that goes wrong is to
 // be seen, so nothing here demands anything of lent memory: what lies outside is left out. All of it is for the crates above. Rests on
-// tables and on the kit's io.
+// tables, and on the standard library for what it reads and writes.
 #![tactic(auto)]
-use libc::STDOUT_FILENO;
+
+ghost use Rattle.std.specs.Prelude.{◌≤◌, length, IfOk};
+
+use std::io;
+use std::io::Read;
 
 // Where pieces end: at the first place, at the second, and then after some bytes that noise chooses, up to `step`; with a step of 0, at the
 // end.
@@ -14,27 +18,41 @@ pub struct Cuts {
 }
 
 // Writes a text and a number.
-pub fn say(text: &[u8], number: u64) {
-    io::write_all(STDOUT_FILENO, text);
-    io::print_decimal(STDOUT_FILENO, number);
+pub fn say(rt: &impl Print, text: &[u8], number: u64) -> io::Result<()> {
+    rt.write_all(text)?;
+    rt.print(number)
 }
 
 // A line for an answer of a case or a file that is not the one expected.
-fn complain(what: &[u8], number: u64, answer: u64, expected: u64, got: u64) {
-    say(what, number);
-    say(b" answer ", answer);
-    say(b": expected ", expected);
-    say(b", got ", got);
-    io::write_all(STDOUT_FILENO, b"\n");
+fn complain(
+    rt: &impl Print,
+    what: &[u8],
+    number: u64,
+    answer: u64,
+    expected: u64,
+    got: u64,
+) -> io::Result<()> {
+    say(rt, what, number)?;
+    say(rt, b" answer ", answer)?;
+    say(rt, b": expected ", expected)?;
+    say(rt, b", got ", got)?;
+    rt.write_all(b"\n")
 }
 
 // 1 and a line where two numbers differ, and 0 where they are the same.
-pub fn differs(what: &[u8], number: u64, answer: u64, expected: u64, got: u64) -> usize {
+pub fn differs(
+    rt: &impl Print,
+    what: &[u8],
+    number: u64,
+    answer: u64,
+    expected: u64,
+    got: u64,
+) -> io::Result<usize> {
     if expected == got {
-        return 0;
+        return Ok(0);
     }
-    complain(what, number, answer, expected, got);
-    1
+    complain(rt, what, number, answer, expected, got)?;
+    Ok(1)
 }
 
 // One step of the noise that fills files.
@@ -175,14 +193,37 @@ pub fn number(numbers: &[u64], at: usize) -> u64 {
 }
 
 // How many of the first so many numbers are not those expected, with a line for each.
-pub fn all_differ(what: &[u8], case: u64, expected: &[u64], got: &[u64], many: u64) -> usize {
+pub fn all_differ(
+    rt: &impl Print,
+    what: &[u8],
+    case: u64,
+    expected: &[u64],
+    got: &[u64],
+    many: u64,
+) -> io::Result<usize> {
     let mut wrong: usize = 0;
     let mut k: u64 = 0;
     while k < many {
         let at = k as usize;
-        let here = differs(what, case, k + 1, number(expected, at), number(got, at));
+        let here = differs(rt, what, case, k + 1, number(expected, at), number(got, at))?;
         wrong = sum(wrong, here);
         k += 1;
     }
-    wrong
+    Ok(wrong)
+}
+
+// Reads standard input into a buffer until that is full or the input ends, and answers how many bytes there are.
+pub fn read_full(rt: &impl Input, space: &mut [u8]) -> io::Result<usize>
+    ensures { IfOk result (λ n. n ≤ length space.new) }
+{
+    let mut input = rt.reader();
+    let mut done = 0;
+    while done < space.len() {
+        let n = input.read(&mut space[done..])?;
+        if n == 0 {
+            break;
+        }
+        done += n;
+    }
+    Ok(done)
 }

@@ -1,6 +1,7 @@
 // One case: its file is made, the calls are asked, and what they answer is held to the list. Rests on test_asked and the rest of this
 // program, on test_expected, listing, test_readings, test_tools and tables.
 use crate::fed::{Pieces, in_pieces, with_choice, with_more, with_pieces};
+use std::io;
 use test_expected::making::next_case;
 use test_expected::{Seen, expect, expect_all};
 use test_tools::Cuts;
@@ -44,30 +45,43 @@ const CHOICE: usize = 15;
 const ASKED: usize = 16;
 
 // The listing's line and the tally.
-fn listed(list: &[u8], before: Seen, file: &[u8]) -> Seen {
+fn listed(rt: &impl Print, list: &[u8], before: Seen, file: &[u8]) -> io::Result<Seen> {
     let mut line = [0u8; listing::LINE];
     let long = listing::list_line(file, &mut line);
-    let seen = expect(list, before, test_tools::digest(0, &line[..long], long));
+    let seen = expect(rt, list, before, test_tools::digest(0, &line[..long], long))?;
     let told = test_readings::tallied(file);
-    expect_all(list, seen, &told, 0, 11)
+    expect_all(rt, list, seen, &told, 0, 11)
 }
 
 // All answers after those of the whole calls.
-fn with_rest(list: &[u8], before: Seen, case: [u64; 16], file: &[u8], pieces: Pieces) -> Seen {
-    let mut seen = with_pieces(list, before, pieces);
-    seen = test_asked::frame(list, seen, file, case[PLACE], case[SIZE], case[SCRATCH]);
-    seen = test_asked::payload(list, seen, file, case[BLOCK]);
-    seen = listed(list, seen, file);
-    seen = test_asked::probed(list, seen, file, case[PROBE], case[PART]);
-    seen = with_more(list, seen, pieces);
-    seen = test_asked::placed(list, seen, file, case[PLACE], case[SIZE], case[SCRATCH]);
-    with_choice(list, seen, pieces)
+fn with_rest(
+    rt: &impl Print,
+    list: &[u8],
+    before: Seen,
+    case: [u64; 16],
+    file: &[u8],
+    pieces: Pieces,
+) -> io::Result<Seen> {
+    let mut seen = with_pieces(rt, list, before, pieces)?;
+    seen = test_asked::frame(rt, list, seen, file, case[PLACE], case[SIZE], case[SCRATCH])?;
+    seen = test_asked::payload(rt, list, seen, file, case[BLOCK])?;
+    seen = listed(rt, list, seen, file)?;
+    seen = test_asked::probed(rt, list, seen, file, case[PROBE], case[PART])?;
+    seen = with_more(rt, list, seen, pieces)?;
+    seen = test_asked::placed(rt, list, seen, file, case[PLACE], case[SIZE], case[SCRATCH])?;
+    with_choice(rt, list, seen, pieces)
 }
 
 // The whole calls of QP and QP7.
-fn with_tables(list: &[u8], before: Seen, case: [u64; 16], file: &[u8]) -> Seen {
-    let seen = test_asked::whole_qp(list, before, file, case[TABLE]);
-    test_asked::whole_qp7(list, seen, file, case[RECORDS], case[SEGMENTS])
+fn with_tables(
+    rt: &impl Print,
+    list: &[u8],
+    before: Seen,
+    case: [u64; 16],
+    file: &[u8],
+) -> io::Result<Seen> {
+    let seen = test_asked::whole_qp(rt, list, before, file, case[TABLE])?;
+    test_asked::whole_qp7(rt, list, seen, file, case[RECORDS], case[SEGMENTS])
 }
 
 fn cuts_of(case: [u64; 16]) -> Cuts {
@@ -80,18 +94,19 @@ fn cuts_of(case: [u64; 16]) -> Cuts {
 
 // All answers but those of detection, with so much lent.
 fn in_room(
+    rt: &impl Print,
     list: &[u8],
     before: Seen,
     case: [u64; 16],
     file: &[u8],
     out: &mut [u8],
     counts: &mut [u8],
-) -> Seen {
-    let mut seen = test_asked::both_sp(list, before, file, out, counts);
-    seen = with_tables(list, seen, case, file);
+) -> io::Result<Seen> {
+    let mut seen = test_asked::both_sp(rt, list, before, file, out, counts)?;
+    seen = with_tables(rt, list, seen, case, file)?;
     let cuts = cuts_of(case);
     let pieces = in_pieces(case[KIND], file, cuts, case[CHOICE], out, counts);
-    with_rest(list, seen, case, file, pieces)
+    with_rest(rt, list, seen, case, file, pieces)
 }
 
 // Room for packets, as it is lent.
@@ -100,13 +115,20 @@ fn room() -> [u8; 172032] {
 }
 
 // All answers of a case.
-fn answers(list: &[u8], before: Seen, case: [u64; 16], file: &[u8]) -> Seen {
+fn answers(
+    rt: &impl Print,
+    list: &[u8],
+    before: Seen,
+    case: [u64; 16],
+    file: &[u8],
+) -> io::Result<Seen> {
     let mut out = room();
     let mut counts = [165u8; 4096];
     let bytes = tables::lesser(case[OUT] as usize, 172032);
     let many = tables::lesser(case[COUNTS] as usize, 4096);
-    let seen = test_asked::detection(list, before, file);
+    let seen = test_asked::detection(rt, list, before, file)?;
     in_room(
+        rt,
         list,
         seen,
         case,
@@ -117,10 +139,10 @@ fn answers(list: &[u8], before: Seen, case: [u64; 16], file: &[u8]) -> Seen {
 }
 
 // The next case of the list, with its file.
-pub fn one_case(list: &[u8], before: Seen) -> Seen {
+pub fn one_case(rt: &impl Print, list: &[u8], before: Seen) -> io::Result<Seen> {
     let mut space = [0u8; 67584];
     let case = next_case(list, before, ASKED, &mut space);
     let asked = case.asked;
     let long = tables::lesser(case.long, 67584);
-    answers(list, case.seen, asked, &space[0..long])
+    answers(rt, list, case.seen, asked, &space[0..long])
 }

@@ -2,8 +2,8 @@
 // test_feeding and test_ends, and on test_expected, test_sums and test_tools.
 ghost use Rattle.reader.specs.State.{Reached};
 
-use libc::STDOUT_FILENO;
 use reader::Reader;
+use std::io;
 use test_ends::{Ended, LenientEnd};
 use test_expected::{Seen, expect, expect_all};
 use test_sums::{BESIDE, BYTES, NUMBER, PACKETS, PAST, PIECES, Sums, TAKEN};
@@ -69,99 +69,120 @@ pub fn in_pieces(
 }
 
 // What the pieces brought.
-fn with_sums(list: &[u8], before: Seen, came: Sums) -> Seen {
-    let mut seen = expect(list, before, came[TAKEN]);
-    seen = expect_all(list, seen, &came, NUMBER, BYTES);
-    seen = expect(list, seen, came[PIECES]);
-    expect_all(list, seen, &came, BYTES, PAST)
+fn with_sums(rt: &impl Print, list: &[u8], before: Seen, came: Sums) -> io::Result<Seen> {
+    let mut seen = expect(rt, list, before, came[TAKEN])?;
+    seen = expect_all(rt, list, seen, &came, NUMBER, BYTES)?;
+    seen = expect(rt, list, seen, came[PIECES])?;
+    expect_all(rt, list, seen, &came, BYTES, PAST)
 }
 
 // What a lenient end brought, and the frames owed after it.
-fn with_end(list: &[u8], before: Seen, came: Sums, owed: usize) -> Seen {
-    let seen = expect_all(list, before, &came, NUMBER, PAST);
-    expect(list, seen, owed as u64)
+fn with_end(
+    rt: &impl Print,
+    list: &[u8],
+    before: Seen,
+    came: Sums,
+    owed: usize,
+) -> io::Result<Seen> {
+    let seen = expect_all(rt, list, before, &came, NUMBER, PAST)?;
+    expect(rt, list, seen, owed as u64)
 }
 
 // The lenient end, and an empty piece after that.
-fn with_lenient(list: &[u8], before: Seen, lenient: LenientEnd) -> Seen {
+fn with_lenient(
+    rt: &impl Print,
+    list: &[u8],
+    before: Seen,
+    lenient: LenientEnd,
+) -> io::Result<Seen> {
     let came = lenient.came;
     let late = lenient.late;
-    let seen = with_end(list, before, came, lenient.owed);
-    expect_all(list, seen, &late, NUMBER, BYTES)
+    let seen = with_end(rt, list, before, came, lenient.owed)?;
+    expect_all(rt, list, seen, &late, NUMBER, BYTES)
 }
 
 // The strict end, then the lenient end.
-fn with_ends(list: &[u8], before: Seen, ended: Ended) -> Seen {
+fn with_ends(rt: &impl Print, list: &[u8], before: Seen, ended: Ended) -> io::Result<Seen> {
     let strict = ended.strict;
     let lenient = ended.lenient;
-    let mut seen = expect(list, before, ended.owed as u64);
-    seen = expect_all(list, seen, &strict, NUMBER, PACKETS);
-    with_lenient(list, seen, lenient)
+    let mut seen = expect(rt, list, before, ended.owed as u64)?;
+    seen = expect_all(rt, list, seen, &strict, NUMBER, PACKETS)?;
+    with_lenient(rt, list, seen, lenient)
 }
 
 // A reader opened, fed and ended.
-pub fn with_pieces(list: &[u8], before: Seen, pieces: Pieces) -> Seen {
+pub fn with_pieces(rt: &impl Print, list: &[u8], before: Seen, pieces: Pieces) -> io::Result<Seen> {
     let opened = pieces.opened;
     let came = pieces.came;
     let ended = pieces.ended;
-    let mut seen = expect_all(list, before, &opened, NUMBER, PACKETS);
-    seen = with_sums(list, seen, came);
-    with_ends(list, seen, ended)
+    let mut seen = expect_all(rt, list, before, &opened, NUMBER, PACKETS)?;
+    seen = with_sums(rt, list, seen, came)?;
+    with_ends(rt, list, seen, ended)
 }
 
 // After the lenient end: the strict end, and the lenient end again.
-fn with_second(list: &[u8], before: Seen, lenient: LenientEnd) -> Seen {
+fn with_second(
+    rt: &impl Print,
+    list: &[u8],
+    before: Seen,
+    lenient: LenientEnd,
+) -> io::Result<Seen> {
     let last = lenient.came;
     let strict = lenient.strict;
     let again = lenient.again;
-    let mut seen = expect(list, before, last[PAST]);
-    seen = expect_all(list, seen, &strict, NUMBER, PACKETS);
-    with_end(list, seen, again, lenient.still)
+    let mut seen = expect(rt, list, before, last[PAST])?;
+    seen = expect_all(rt, list, seen, &strict, NUMBER, PACKETS)?;
+    with_end(rt, list, seen, again, lenient.still)
 }
 
 // The packets of the strict end, the refusal of an empty piece after it, and what follows on the lenient end.
-fn with_rest(list: &[u8], before: Seen, ended: Ended) -> Seen {
+fn with_rest(rt: &impl Print, list: &[u8], before: Seen, ended: Ended) -> io::Result<Seen> {
     let strict = ended.strict;
     let patient = ended.patient;
     let lenient = ended.lenient;
-    let mut seen = expect(list, before, strict[PACKETS]);
-    seen = expect(list, seen, patient[NUMBER]);
-    with_second(list, seen, lenient)
+    let mut seen = expect(rt, list, before, strict[PACKETS])?;
+    seen = expect(rt, list, seen, patient[NUMBER])?;
+    with_second(rt, list, seen, lenient)
 }
 
 // The packets that open answers, an empty piece on the fresh reader, what the pieces left untouched, and the rest.
-pub fn with_more(list: &[u8], before: Seen, pieces: Pieces) -> Seen {
+pub fn with_more(rt: &impl Print, list: &[u8], before: Seen, pieces: Pieces) -> io::Result<Seen> {
     let opened = pieces.opened;
     let fresh = pieces.fresh;
     let came = pieces.came;
     let ended = pieces.ended;
     let said = [opened[PACKETS], fresh[NUMBER], fresh[PACKETS], came[PAST]];
-    let seen = expect_all(list, before, &said, 0, 4);
-    with_rest(list, seen, ended)
+    let seen = expect_all(rt, list, before, &said, 0, 4)?;
+    with_rest(rt, list, seen, ended)
 }
 
 // An end by a choice that is neither, after the lenient end.
-fn with_late_choice(list: &[u8], before: Seen, lenient: LenientEnd) -> Seen {
+fn with_late_choice(
+    rt: &impl Print,
+    list: &[u8],
+    before: Seen,
+    lenient: LenientEnd,
+) -> io::Result<Seen> {
     let late = lenient.neither;
-    expect_all(list, before, &late, NUMBER, BYTES)
+    expect_all(rt, list, before, &late, NUMBER, BYTES)
 }
 
 // What the strict end left untouched, and the ends by a choice that is neither, before the others and after the lenient one.
-pub fn with_choice(list: &[u8], before: Seen, pieces: Pieces) -> Seen {
+pub fn with_choice(rt: &impl Print, list: &[u8], before: Seen, pieces: Pieces) -> io::Result<Seen> {
     let ended = pieces.ended;
     let strict = ended.strict;
     let neither = ended.neither;
     let lenient = ended.lenient;
-    let mut seen = expect(list, before, strict[PAST]);
-    seen = expect_all(list, seen, &neither, NUMBER, BYTES);
-    with_late_choice(list, seen, lenient)
+    let mut seen = expect(rt, list, before, strict[PAST])?;
+    seen = expect_all(rt, list, seen, &neither, NUMBER, BYTES)?;
+    with_late_choice(rt, list, seen, lenient)
 }
 
 // A DSS reader at the limit and a byte past it: 268,435,456 bytes are taken, and one more is refused by 2.
-pub fn limit() {
+pub fn limit(rt: &impl Print) -> io::Result<()> {
     let came = test_feeding::past_the_limit();
-    say(b"limit: taken ", came[TAKEN]);
-    say(b", then refused ", came[NUMBER]);
-    say(b" ", came[BESIDE]);
-    io::write_all(STDOUT_FILENO, b"\n");
+    say(rt, b"limit: taken ", came[TAKEN])?;
+    say(rt, b", then refused ", came[NUMBER])?;
+    say(rt, b" ", came[BESIDE])?;
+    rt.write_all(b"\n")
 }

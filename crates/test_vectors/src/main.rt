@@ -2,7 +2,8 @@
 // many answers were wrong; each wrong one gets a line. LIST.md says what the list holds, and make.py makes it.
 // Rests on all the calls, and on test_asked, test_expected, test_feeding, test_ends and what these share.
 #![tactic(auto)]
-use libc::{STDIN_FILENO, STDOUT_FILENO};
+
+use std::io;
 
 // The calls on one file.
 mod calls;
@@ -11,14 +12,14 @@ mod calls;
 mod fed;
 
 // Runs through the list. A case has some numbers, so there are no more cases than bytes.
-fn run(list: &[u8]) {
+fn run(rt: &impl Print, list: &[u8]) -> io::Result<()> {
     let mut seen = test_expected::begin();
     let mut turns: usize = 0;
     while turns < list.len() && test_expected::goes_on(list, seen) {
-        seen = calls::one_case(list, seen);
+        seen = calls::one_case(rt, list, seen)?;
         turns += 1;
     }
-    test_expected::conclude(seen);
+    test_expected::conclude(rt, seen)
 }
 
 // Room for the list, and more.
@@ -26,13 +27,12 @@ fn room() -> [u8; 1310720] {
     [0u8; 1310720]
 }
 
-fn main() {
+fn main(rt: HostRuntime) -> io::Result<()> {
     let mut space = room();
-    let n = io::read_full(STDIN_FILENO, &mut space);
+    let n = test_tools::read_full(&rt, &mut space)?;
     if n == 1310720 {
-        io::write_all(STDOUT_FILENO, b"the list is too long\n");
-        return;
+        return println!(rt; "the list is too long");
     }
-    run(&space[..n]);
-    fed::limit();
+    run(&rt, &space[..n])?;
+    fed::limit(&rt)
 }

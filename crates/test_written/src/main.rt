@@ -2,7 +2,8 @@
 // many were answered, and how many of the files gave their packets back; each difference gets a line. make.py makes the list, and says what
 // it holds and why refusal 17 is not in it. Rests on writing and sp, on test_expected and test_sums and what these share.
 #![tactic(auto)]
-use libc::{STDIN_FILENO, STDOUT_FILENO};
+
+use std::io;
 use test_tools::{say, sum};
 
 // One case.
@@ -12,15 +13,15 @@ mod calls;
 mod making;
 
 // The line at the end.
-fn conclude(cases: usize, answered: usize, back: usize) {
-    say(b"cases ", cases as u64);
-    say(b", answered ", answered as u64);
-    say(b", read back ", back as u64);
-    io::write_all(STDOUT_FILENO, b"\n");
+fn conclude(rt: &impl Print, cases: usize, answered: usize, back: usize) -> io::Result<()> {
+    say(rt, b"cases ", cases as u64)?;
+    say(rt, b", answered ", answered as u64)?;
+    say(rt, b", read back ", back as u64)?;
+    rt.write_all(b"\n")
 }
 
 // Runs through the list. A case has some numbers, so there are no more cases than bytes.
-fn run(list: &[u8]) {
+fn run(rt: &impl Print, list: &[u8]) -> io::Result<()> {
     let mut seen = test_expected::begin();
     let mut answered: usize = 0;
     let mut back: usize = 0;
@@ -28,21 +29,20 @@ fn run(list: &[u8]) {
     while cases < list.len() && test_expected::goes_on(list, seen) {
         let case = test_expected::read(list, seen.at, making::NUMBERS);
         let numbers = case.values;
-        let came = calls::one_case(numbers);
+        let came = calls::one_case(rt, numbers)?;
         seen = test_expected::read_to(seen, case.at);
         answered = sum(answered, came.answered);
         back = sum(back, came.back);
         cases += 1;
     }
-    conclude(cases, answered, back);
+    conclude(rt, cases, answered, back)
 }
 
-fn main() {
+fn main(rt: HostRuntime) -> io::Result<()> {
     let mut space = [0u8; 65536];
-    let n = io::read_full(STDIN_FILENO, &mut space);
+    let n = test_tools::read_full(&rt, &mut space)?;
     if n == 65536 {
-        io::write_all(STDOUT_FILENO, b"the list is too long\n");
-        return;
+        return println!(rt; "the list is too long");
     }
-    run(&space[..n]);
+    run(&rt, &space[..n])
 }
