@@ -19,10 +19,10 @@ returns-then-room-needed c =
     let a = c.args in
     let e = c.write_segments-needed.ensures in
     rw c.segments.ensures
-    (no_room a.file.now a.recording _ _ _ e.0 _ _ refl c.at_once-written.ensures.0 e.1.0 e.1.1 c.if-room-needed.true)
+    (no_room a.file.now a.recording _ _ _ e.many _ _ refl c.at_once-written.ensures.0 e.few e.written c.if-room-needed.true)
 
 pub returns : goal.returns
 returns c =
     let a = c.args in
     let e = c.write_segments-needed.ensures in
-    with_room a.file.now a.recording _ _ _ e.0 _ _ refl c.at_once-written.ensures.0 e.1.0 e.1.1 _ _ c.announced.ensures.0 c.if-room-needed.false c.write_needed.ensures.none c.write_needed.ensures.all
+    with_room a.file.now a.recording _ _ _ e.many _ _ refl c.at_once-written.ensures.0 e.few e.written _ _ c.announced.ensures.0 c.if-room-needed.false c.write_needed.ensures.none c.write_needed.ensures.all

@@ -10,7 +10,7 @@ use borrow.Author.Rules.{rules}
 use Rattle.std.proofs.Common.{rules, ◌≡◌, ◌+◌, ◌*◌, ◌<◌, ◌≤◌, ◌^◌, max, [], ◌∷◌, length, ℕ, ◌-◌, ◌/◌, ◌%◌, Bool, true, false, nat_eq, nat_lt, List, ◌++◌, slice_index_or, slice_set, bit_and, bit_or, Fits, w8, w32, w64, Bor, MutBor}
 use Rattle.tables.specs.Inner.{Puts}
 use Rattle.refusals.specs.Said.{answers}
-use Rattle.whole.specs.Admissions.{Sound, stream_in}
+use Rattle.whole.specs.Admissions.{Sound}
 use Rattle.qp7.specs.Records.{record_size, record_at, record_says}
 use Rattle.qp7.specs.Inner.{numbers_of, numbers_at, walked_says, Near, ReadsOn, Closes, GoesOn}
 use Rattle.qp7.specs.Walk.{Gathered, nothing, with_block, gathered_from, qp7_reading}
@@ -23,11 +23,11 @@ returns-then-left-lt2 c = rw c.selector.ensures (no_selector _ _ _ (omega (arith
 pub returns-then-left-size : goal.returns-then-left-size
 returns-then-left-size c =
     let byte = c.stream_byte-second.ensures ∙ sym (stream_in c.args.file.now c.args.recording.start.0 c.args.recording.blocks (c.args.at.0 + 1) (omega (arith, c.if-left-lt2.false))) in
-    let size = c.type_size.ensures.0 ∙ ap record_size byte in
+    let size = c.size_of-size.ensures.0 ∙ ap record_size byte in
     rw c.«record».ensures (runs_past _ _ _ _ (omega (arith, c.if-left-lt2.false)) size (omega (arith, c.if-left-size.true)))
 
 pub returns : goal.returns
 returns c =
     let byte = c.stream_byte-second.ensures ∙ sym (stream_in c.args.file.now c.args.recording.start.0 c.args.recording.blocks (c.args.at.0 + 1) (omega (arith, c.if-left-lt2.false))) in
-    let size = c.type_size.ensures.0 ∙ ap record_size byte in
+    let size = c.size_of-size.ensures.0 ∙ ap record_size byte in
     record_there _ _ _ _ (omega (arith, c.if-left-lt2.false)) size (omega (arith, c.if-left-size.false))

@@ -22,14 +22,14 @@ loop-block-init c = (omega arith, refl, refl, gathering_begins _ _ _ _ _)
 pub returns-in_default : goal.returns-in_default
 returns-in_default c =
     let l = c.loop-block in
-    gathering_stops _ _ _ _ _ _ _ _ _ l.invariant.3 _ _ _ c.with_block_lem.ensures.0 _ c.in_default.is c.loop-block-test.true
+    gathering_stops _ _ _ _ _ _ _ _ _ l.invariant.3 _ _ _ c.with_block-came.ensures.on _ c.in_default.is c.loop-block-test.true
 
 pub loop-block-preserved : goal.loop-block-preserved
 loop-block-preserved c =
     let l = c.loop-block in
     let next =
-    gathering_goes_on _ _ _ _ _ _ _ _ _ l.invariant.3 _ _ _ c.with_block_lem.ensures.0 _ c.in-At.is
-    c.with_block_lem.ensures.1 in
+    gathering_goes_on _ _ _ _ _ _ _ _ _ l.invariant.3 _ _ _ c.with_block-came.ensures.on _ c.in-At.is
+    c.with_block-came.ensures.near in
     (omega (arith, c.loop-block-test.true), search rules, search rules, next)
 
 pub returns : goal.returns

@@ -19,8 +19,8 @@ pub returns : goal.returns
 returns c =
     let a = c.args in (
       c.wide-count.ensures.1,
-      omega (arith, c.dss_start_lem.ensures, start_most a.block c.wide.result c.flag-swap.result),
+      omega (arith, c.dss_start-start.ensures, start_most a.block c.wide.result c.flag-swap.result),
       λ f at zero one two.
           run_is f at a.block c.wide.result _ _ _ (c.wide.ensures.0 ∙ one) (c.flag-swap.ensures ∙ ap flag_of zero)
-          c.dss_start_lem.ensures (c.wide-count.ensures.0 ∙ two),
+          c.dss_start-start.ensures (c.wide-count.ensures.0 ∙ two),
     )
