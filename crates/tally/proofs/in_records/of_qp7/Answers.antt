@@ -1,0 +1,35 @@
+-- `tally::in_records::of_qp7` meets its contract: the walk stands for what the blocks so far gather, and the bytes are those of its records.
+-- Assumes nothing.
+use Prim.Native.Nat.{◌-◌, ◌≤◌}
+use mathlib.Core.Path.{refl, sym, ap}
+use native.Mathlib.Omega.{arith}
+use lib.ListN.{length}
+use Rattle.whole.proofs.Admissions.{few_blocks}
+use Rattle.qp7.proofs.Gathering.{gathering_goes_on, gathering_stops}
+use Rattle.tally.proofs.Recordwise.{Tallying, tallying_begins, tallying_goes_on, told_why, tallying_ends}
+use borrow.Author.Rules.{rules}
+use Rattle.std.proofs.Common.{◌≡◌, ◌+◌, ◌^◌, ◌*◌, ◌<◌, ◌/◌, ◌%◌, [], ◌∷◌, ◌++◌}
+use Rattle.tally.proofs.in_records.of_qp7.Goals as goal
+
+pub loop-block-init : goal.loop-block-init
+loop-block-init c = (omega arith, tallying_begins _ _ _ _ _)
+
+pub returns-in-Refused : goal.returns-in-Refused
+returns-in-Refused c =
+    let stops =
+    gathering_stops _ _ _ _ _ _ _ _ _ c.loop-block.invariant.1.so _ _ _ c.with_block-came.ensures.on _ c.in-Refused.is
+    c.loop-block-test.true in
+    told_why _ _ _ _ c.in-Refused.is stops.answer_is
+
+pub loop-block-preserved : goal.loop-block-preserved
+loop-block-preserved c =
+    let l = c.loop-block in
+    let next =
+    gathering_goes_on _ _ _ _ _ _ _ _ _ l.invariant.1.so _ _ _ c.with_block-came.ensures.on _ c.in-At.is
+    c.with_block-came.ensures.near in
+    (omega (arith, c.loop-block-test.true), tallying_goes_on l.invariant.1 next _ c.bytes_read.ensures)
+
+pub returns : goal.returns
+returns c =
+    let l = c.loop-block in
+    tallying_ends l.invariant.1 (omega (arith, l.invariant.0, c.loop-block-test.false))
