@@ -1,6 +1,7 @@
 // What QP and QP7 calls answered, in numbers, and digests of their segments with the bytes of the frames and records, each found, filled and
 // shown by the calls. All of it is for the crates above. Rests on frames, qp, qp7 and blocks, and on test_tools.
 #![tactic(auto)]
+
 use blocks::StreamPlace;
 use test_tools::{mix, sum, word};
 

@@ -1,8 +1,6 @@
 -- `test_samples::long_records` meets its contract: the file keeps its length while its payload is written.
 -- Assumes nothing.
-use Prim.Native.Nat.{◌-◌, ◌≤◌}
-use mathlib.Core.Path.{◌≡◌}
-use lib.ListN.{length}
+use Rattle.std.proofs.Common.{◌-◌, ◌≤◌, ◌≡◌, length}
 use Rattle.test_samples.proofs.long_records.Given as goal
 
 abbrev pub invariant-loop-k : goal.invariant-loop-k

@@ -1,8 +1,6 @@
 -- `test_samples::rising` meets its contract: it ends, and fills its 40 places.
 -- Assumes nothing.
-use Prim.Native.Nat.{◌-◌, ◌≤◌}
-use mathlib.Core.Path.{◌≡◌}
-use lib.ListN.{length}
+use Rattle.std.proofs.Common.{◌-◌, ◌≤◌, ◌≡◌, length}
 use Rattle.test_samples.proofs.rising.Given as goal
 
 abbrev pub invariant-loop-k : goal.invariant-loop-k

@@ -1,6 +1,6 @@
 -- `test_samples::shown::show` meets its contract: it ends, and each index is inside the packet.
 -- Assumes nothing.
-use Prim.Native.Nat.{◌-◌, ◌≤◌}
+use Rattle.std.proofs.Common.{◌-◌, ◌≤◌}
 use Rattle.test_samples.proofs.shown.show.Given as goal
 
 abbrev pub invariant-loop-k : goal.invariant-loop-k
