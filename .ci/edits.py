@@ -67,11 +67,21 @@ def is_function(crate: str, what: str) -> bool:
 
 
 def copied(room: str) -> None:
-    """Puts the crates' texts into a folder of their own, where an edit changes nothing here."""
+    """Puts the crates' texts into a folder of their own, where an edit changes nothing here, beside the libraries that are built."""
     shutil.copytree("crates", f"{room}/crates", ignore=shutil.ignore_patterns("out", "must-fail"))
+    for library in glob.glob("crates/*/out/rlib"):
+        shutil.copytree(library, f"{room}/{library}", copy_function=linked)
     for name in ("crates.txt", "HANDLES"):
         if os.path.exists(name):
             shutil.copyfile(name, f"{room}/{name}")
+
+
+def linked(one: str, other: str) -> None:
+    """What is built is written anew, and never where it stands: so a copy of it is a second name, where the folder allows that."""
+    try:
+        os.link(one, other)
+    except OSError:
+        shutil.copy2(one, other)
 
 
 def said(room: str, crate: str, found: list[dict], log: str) -> str:
