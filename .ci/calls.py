@@ -13,8 +13,8 @@ from sources import Declaration, crates, declared, named, rattle_files, read
 CALL = re.compile(r"`((?:\w+(?:::|\.))*)(\w+)(?:\(([^)]*)\))?`")
 EXPORTS = "the other exports of that crate"
 # what a reader's calls ask, by value and where the reader stands
-ASKED = dict.fromkeys(("piece", "end", "owed"), ["⌜ Reached self ⌝"])
-ASKED |= dict.fromkeys(("klov_piece", "klov_end"), ["⌜ Reached (now reader) ⌝"])
+ASKED = dict.fromkeys(("piece", "end", "owed"), ["Reached self"])
+ASKED |= dict.fromkeys(("klov_piece", "klov_end"), ["Reached reader.old"])
 
 
 def cells(text: str) -> list[str]:

@@ -5,21 +5,28 @@ A name that a text binds is no citation where it is bound: by `(x : T)` and `{x 
 function's parameters in its contract. Constructors and variants lead to their type, and the form in which a theorem names a contract leads to
 the function. Names of the kit are not followed. A word that is none of all this is an error, so that no citation is passed over.
 """
+import os
 import re
+import subprocess
 import sys
 from functools import cache
 from typing import NamedTuple
 
 from sources import Declaration, bare, crates, declared, rattle_files, read
 
-OWN_USE = re.compile(r"^(?:ghost )?use Rattle·(\w+)(?:·\w+)?\.(?:(?:specs|proofs)\.)?(specs|proofs)\.([^\s{;]+?)(?:\.\{([^}]*)\}| as ([^\s;]+));?$", re.M)
-KIT_USE = re.compile(r"^(?:ghost )?use (?!Rattle·)([^\s{;:]+?)(?:\.\{([^}]*)\}| as ([^\s;]+));?$", re.M)
-RATTLE_USE = re.compile(r"^use (\w+)::(?:\w+::)*(\w+);$", re.M)
-TOKEN = re.compile(r"[(){}⌜⌝,;\[\]]|[^\s(){}⌜⌝,;\[\]]+")
+USE = re.compile(r"^(?:ghost )?use ([^\s{;:]+?)(?:\.\{([^}]*)\}| as ([^\s;]+));?$", re.M)
+OF_CRATE = re.compile(r"Rattle\.(\w+)\.(specs|proofs)\.(.+)")
+PASSED_ON = re.compile(r"^pub use ([^\s{;:]+?)\.\{([^}]*)\}", re.M)
+RATTLE_USE = re.compile(r"^use (\w+)::(?:\w+::)*(?:(\w+)|\{([^}]*)\});$", re.M)
+TOKEN = re.compile(r"[(){},;\[\]]|[^\s(){},;\[\]]+")
 NAME = re.compile(r"[^\s.:=(){}\[\],;]+")
+# what an operator is imported with
+BLANK = "◌"
 NUMBER = re.compile(r"\d+|0x[0-9A-Fa-f]+")
 # what the languages have of themselves
-WORDS = set("pub abbrev unfoldable unfolding module where record data Type : → = × _ , ; . ⊥ Unit now".split())
+WORDS = set("pub abbrev unfoldable unfolding module where record data Type : → = × _ , ; . ⊥ Unit".split())
+# the kit's libraries whose names stand in the statements as those of its logic do
+OF_LANGUAGE = ("core", "std", "std_alloc", "std_collections", "std_heap", "std_io")
 TYPES = ("struct", "enum", "const")
 
 
@@ -32,8 +39,30 @@ class Citation(NamedTuple):
 
 @cache
 def kits(name: str, module: str) -> Declaration:
-    """A name of the kit, which is not followed."""
-    return Declaration(name, module, 0, "kit", True, False, (), "", ())
+    """A name of the kit, which is not followed, by the module that declares it: others pass it on."""
+    return Declaration(name, home(name, module), 0, "kit", True, False, (), "", ())
+
+
+@cache
+def kit() -> str:
+    """The kit's folder of libraries, by the page that `rt doc` names."""
+    return os.path.join(os.path.dirname(subprocess.run(["rt", "doc"], capture_output=True, text=True, check=True).stdout.strip()), "rattle")
+
+
+@cache
+def passed_on(module: str) -> dict[str, str]:
+    """The names that a module of the kit's libraries passes on, each with the module that it has it from."""
+    found = OF_CRATE.fullmatch(module)
+    path = f"{kit()}/{found[1]}/{found[2]}/{found[3].replace('.', '/')}.antt" if found else ""
+    if not os.path.isfile(path):
+        return {}
+    return {here: of for of, names in PASSED_ON.findall(read(path)) for there, here in each_name(names) if there == here}
+
+
+def home(name: str, module: str) -> str:
+    while name in passed_on(module):
+        module = passed_on(module)[name]
+    return module
 
 
 def in_file(path: str, name: str) -> list[Declaration]:
@@ -48,7 +77,7 @@ def in_module(crate: str, folder: str, module: str, name: str) -> list[Declarati
     """What a name of a module is: one of a file, or that type or function of the code from which the check makes the module."""
     steps = module.split(".")
     if crate not in crates():
-        return [kits(name, f"the kit's {crate}")]
+        return [kits(name, f"Rattle.{crate}.{folder}.{module}" if crate in OF_LANGUAGE else f"the kit's {crate}")]
     path, inside = f"crates/{crate}/{folder}/{steps[0]}.antt", f"crates/{crate}/src/{steps[0]}.rt"
     if declared(path):
         return in_file(path, name)
@@ -68,10 +97,9 @@ def each_name(names: str) -> list[tuple[str, str]]:
 def scope(path: str) -> dict[str, list[Citation]]:
     """The names that a file has by imports and of itself, with what each cites. An operator is imported with its blanks, and used without."""
     found = []
-    for module, names, _ in KIT_USE.findall(read(path)):
-        found += [(key, [Citation(key, there, kits(there, module))]) for there, here in each_name(names) for key in {here, here.strip("_")}]
-    for crate, folder, module, names, _ in OWN_USE.findall(read(path)):
-        found += [(here, [Citation(here, there, one) for one in in_module(crate, folder, module, there)]) for there, here in each_name(names)]
+    for module, names, _ in USE.findall(read(path)):
+        for there, here in each_name(names):
+            found += [(key, [Citation(key, there, one) for one in imported(module, there)]) for key in {here, here.strip(BLANK)}]
     if path.endswith(".antt"):
         own = dict.fromkeys(name for one in declared(path).values() for name in (*one.makers(), one.name))
         found += [(name, [Citation(name, name, one) for one in in_file(path, name)]) for name in own]
@@ -81,22 +109,27 @@ def scope(path: str) -> dict[str, list[Citation]]:
     return by_name
 
 
+def imported(module: str, name: str) -> list[Declaration]:
+    """What a name of an imported module is."""
+    of_crate = OF_CRATE.fullmatch(module)
+    return in_module(*of_crate.groups(), name) if of_crate else [kits(name, module)]
+
+
 def is_maker(path: str, word: str) -> bool:
     """Whether a word of a pattern is a constructor and binds nothing: those of the kit that a file imports are."""
     return "." in word or any(each.one.kind == "kit" or each.name in each.one.makers() for each in scope(path).get(word, []))
 
 
 def resolved(path: str, word: str) -> list[Citation]:
-    """What a word of a file cites, that is not bound there: nothing, if it is one of the language."""
-    if word in scope(path):
-        return scope(path)[word]
+    """What a word of a file cites, that is not bound there: nothing, if it is one of the language. After a dot stands a name of the module
+    that a name stands for, or a field of what it is."""
     before, dot, after = word.partition(".")
-    for crate, folder, module, _, alias in OWN_USE.findall(read(path)) if dot else ():
+    for module, _, alias in USE.findall(read(path)) if dot else ():
         if alias == before:
-            return [Citation(word, after, one) for one in in_module(crate, folder, module, after)]
-    for module, _, alias in KIT_USE.findall(read(path)) if dot else ():
-        if alias == before:
-            return [Citation(word, after, kits(after, module))]
+            return [Citation(word, after, one) for one in imported(module, after)]
+    for name in (word, before):
+        if name in scope(path):
+            return scope(path)[name]
     if word in WORDS or NUMBER.fullmatch(word):
         return []
     sys.exit(f"{path}: what is {word}?")
@@ -122,7 +155,7 @@ class Walk:
 
     def over(self, text: str, pattern: bool = False) -> "Walk":
         """Over a text. In a pattern, which ends with the first `=` that stands in no bracket, names are bound unless they are constructors."""
-        words = [word for word in TOKEN.findall(bare(text)) if word not in ("⌜", "⌝")]
+        words = TOKEN.findall(bare(text))
         binding, at = 0, 0
         while at < len(words):
             word = words[at]
@@ -152,7 +185,7 @@ class Walk:
 
     def meet(self, word: str, pattern: bool) -> None:
         """A word that binds nothing itself, unless it is a pattern's: a field after its dot, a name that is bound, or a citation."""
-        if word.startswith(".") and word != "." or any(word in frame for frame in self.frames):
+        if word.startswith(".") and word != "." or any(word.split(".")[0] in frame for frame in self.frames if word != "."):
             return
         if pattern and not is_maker(self.path, word):
             self.frames[0].add(word)
@@ -181,10 +214,11 @@ def in_antt(one: Declaration) -> list[Citation]:
 def types_in(path: str) -> dict[str, Declaration]:
     """The types and constants that an .rt file has of itself and by imports."""
     found = {one.name: one for one in declared(path).values() if one.kind in TYPES}
-    for crate, name in RATTLE_USE.findall(read(path)):
+    for crate, alone, names in RATTLE_USE.findall(read(path)):
         for source in rattle_files(path.split("/")[1] if crate == "crate" else crate):
-            if name in declared(source) and declared(source)[name].kind in TYPES:
-                found[name] = declared(source)[name]
+            for name in re.findall(r"\w+", alone or names):
+                if name in declared(source) and declared(source)[name].kind in TYPES:
+                    found[name] = declared(source)[name]
     return found
 
 
@@ -205,7 +239,7 @@ def in_rattle(one: Declaration) -> list[Citation]:
     """The types that a function's signature names, or a type's fields, and what a contract cites."""
     if one.kind != "function":
         return in_types(one, one.said())
-    bound = {*one.parameters(), "self"}
+    bound = {*one.parameters(), "self", "result"}
     found = in_types(one, one.signature())
     for clause in one.clauses("requires") + one.clauses("ensures"):
         found += Walk(one.path, bound | {f"«{name}»" for name in bound}).over(clause).found
@@ -243,7 +277,7 @@ def closure(ones: list[Declaration]) -> list[Declaration]:
 @cache
 def modules_of(crate: str, folder: str) -> list[str]:
     """The files of a folder, in the order in which its Lib.antt names them."""
-    return re.findall(r"^pub mod (\w+)", read(f"crates/{crate}/{folder}/Lib.antt"), re.M)
+    return re.findall(r"^(?:pub )?mod (\w+)", read(f"crates/{crate}/{folder}/Lib.antt"), re.M)
 
 
 def place(one: Declaration) -> tuple:

@@ -45,7 +45,7 @@ def say(where, expected, found):
 def exports():
     """Each export as (name, [(parameter, type)], result)."""
     found = []
-    pattern = r'#\[no_mangle\]\s+pub extern "C" fn (\w+)\((.*?)\) -> (\w+)\s'
+    pattern = r'#\[unsafe\(no_mangle\)\]\s+pub extern "C" fn (\w+)\((.*?)\) -> (\w+)\s'
     for name, inside, result in re.findall(pattern, text(RATTLE), re.S):
         words = [word.split(":", 1) for word in squeeze(inside).rstrip(",").split(",") if word]
         found.append((name, [(one.strip(), other.strip()) for one, other in words], result))
@@ -53,7 +53,7 @@ def exports():
 
 
 def fields(name):
-    inside = re.search(r"#\[repr\(C\)\]\s+pub struct " + name + r" \{(.*?)\n\}", text(STRUCTS[name]), re.S).group(1)
+    inside = re.search(r"#\[repr\(C\)\]\s+(?:#\[derive\([^)]*\)\]\s+)?pub struct " + name + r" \{(.*?)\n\}", text(STRUCTS[name]), re.S).group(1)
     return re.findall(r"(?:pub )?(\w+): ([^,\n]+),", inside)
 
 
@@ -104,7 +104,7 @@ def rust_parameters(name, kind):
 
 def refusals():
     """The numbers that each export refuses by, in order, as the definitions list them. The comment over a list names its exports."""
-    found, pattern = {}, r"^(-- [^\n]*)\nabbrev pub (\w+)Refusals : List ℕ\n\2Refusals = ([\d ∷]*)\[\]$"
+    found, pattern = {}, r"^(-- [^\n]*)\nabbrev pub (\w+)_refusals : List ℕ\n\2_refusals = ([\d ∷]*)\[\]$"
     for path in LISTS:
         for comment, name, numbers in re.findall(pattern, text(path), re.M):
             for export in re.findall(r"`(klov_\w+)`", comment) or [f"klov_{name}"]:
@@ -227,7 +227,7 @@ def check_names(header, source):
     said = dict(re.findall(r'Refusal::(\w+) => write!\(to, "(.*)"\),', source))
     compare("Rust texts", [(name, texts.get(name, "")) for name in named], list(said.items()))
     numbers = text("crates/numbers/specs/Numbers.antt")
-    for function, before in (("formatNumber", "KLOV_FORMAT_"), ("kindNumber", "KLOV_")):
+    for function, before in (("format_number", "KLOV_FORMAT_"), ("kind_number", "KLOV_")):
         cases = re.findall(rf"^{function} (?:kinds\.)?(\w+) = (\d+)$", numbers, re.M)
         if not cases:
             say("Numbers.antt", f"the cases of {function}", "none")

@@ -12,8 +12,8 @@ from sources import declared, read, those
 
 # what stands beside the definitions that it goes with, though no statement rests on it
 BESIDE = {
-    ("recordSays", "crates/qp7/specs/Records.antt"): "what a case of an enum says stands with the enum's other definitions",
-    ("countsSay", "crates/tally/specs/Tallies.antt"): "the same",
+    ("record_says", "crates/qp7/specs/Records.antt"): "what a case of an enum says stands with the enum's other definitions",
+    ("counts_say", "crates/tally/specs/Tallies.antt"): "the same",
 }
 
 

@@ -18,7 +18,7 @@ The text of all of them is in THEOREMS.md. A constructor stands here by its type
 
 Beside the definitions every statement rests on: the logic of the kit, its libraries of lists, numbers and slices, and the check itself. Nothing
 is assumed by this project: it has no axiom and no foreign function of its own, and each file of definitions or laws says so in its head. The
-programs rest, besides, on the contracts that the kit's `io` and `libc` assume of the C library; the archive does not.
+programs rest, besides, on what the kit's standard library assumes of the C library, where it reads and writes; the archive does not.
 
 """
 WHOLE = """

@@ -67,7 +67,7 @@ def read(path: str) -> str:
 def crates() -> dict[str, list[str]]:
     """What each crate of crates.txt rests on, in that order."""
     lines = [line.split(":") for line in read("crates.txt").split("\n") if line.strip() and not line.startswith("#")]
-    return {name: rest.split() for name, rest in lines}
+    return {name.removesuffix(" staticlib"): rest.split() for name, rest in lines}
 
 
 def named(text: str) -> list[tuple[str, str]]:
@@ -122,7 +122,7 @@ def definitions(path: str, lines: list[str], at: int, headers: tuple[tuple[int, 
             current, above = None, []
         elif word == "use" and headers:
             sys.exit(f"{path} has an import inside a module, which is not read")
-        elif word == "use" or group[0].startswith("pub mod "):
+        elif word == "use" or group[0].startswith(("pub mod ", "mod ")):
             current, above = None, []
         elif current and word in (current.name, "unfolding", ")"):
             found[-1] = current = with_clause(current, group)

@@ -6,7 +6,7 @@ Compares FILE, docs/THEOREMS.md, with that, or writes it: so no statement is cha
 import sys
 import textwrap
 
-from cited import citations, closure, place
+from cited import BLANK, citations, closure, place
 from made import kept
 from sources import Declaration, demands, read, those
 
@@ -69,7 +69,7 @@ def kit_names(ones: list[Declaration]) -> str:
     meant: dict[str, Declaration] = {}
     every = sorted({each for one in ones for each in citations(one) if each.one.kind == "kit"}, key=lambda each: (each.one.path, each.name))
     for each in every:
-        if each.word.strip("_") != each.name.strip("_") or meant.setdefault(each.name, each.one) != each.one:
+        if each.word.strip(BLANK) != each.name.strip(BLANK) or meant.setdefault(each.name, each.one) != each.one:
             sys.exit(f"{each.word} of the kit is {each.name} of {each.one.path}, and not only that")
         modules.setdefault(each.one.path, {})[f"`{each.name}`"] = None
     return "\n" + "".join(f"- {path}: {', '.join(names)}\n" for path, names in modules.items())

@@ -269,8 +269,9 @@ def processor():
 
 def machine(counts):
     rustc = subprocess.check_output([os.environ.get("RUSTC", "rustc"), "--version"], universal_newlines=True).strip()
+    kit = subprocess.check_output(["rt", "version"], universal_newlines=True).split()[0]
     emulator = run(qemu(), "--version")[0].splitlines()[0] if counts else "no emulator"
-    return "%s, %s, processor %s; %s; %s.\n" % (datetime.date.today(), platform.machine(), processor(), rustc, emulator)
+    return "%s, %s, processor %s; %s; %s; %s.\n" % (datetime.date.today(), platform.machine(), processor(), kit, rustc, emulator)
 
 
 def steady(size):
