@@ -1,5 +1,4 @@
 -- Laws of this crate, a file for each matter. They rest on the definitions in specs/ and on the laws of the crates below.
-pub mod Storing
 pub mod Refusing
 pub mod Settled
 pub mod Theorems
