@@ -1,6 +1,7 @@
 // A reader ended strictly and leniently, and by a choice that is neither, in numbers. All of it is for the crates above. Rests on reader and
 // test_sums.
 #![tactic(auto)]
+
 ghost use Rattle.reader.specs.State.{Reached};
 
 use reader::{LENIENT, Reader, STRICT};

@@ -1,6 +1,7 @@
 // A recording fed to a reader piece by piece, with digests of what comes out. All of it is for the crates above. Rests on reader,
 // test_sums, test_tools and tables.
 #![tactic(auto)]
+
 ghost use Rattle.std.specs.Prelude.{◌<◌, ◌≤◌};
 ghost use Rattle.reader.specs.State.{Reached};
 
