@@ -1,6 +1,7 @@
 // Blocks and places: a file's blocks after the audio start, their headers' fields, and the payload stream.
 // Every function here is for the crates above. Rests on tables.
 #![tactic(auto)]
+
 ghost use Rattle.std.specs.Prelude.{◌≡◌, ◌+◌, ◌*◌, ◌<◌, ◌≤◌, ◌^◌, length, get_or};
 ghost use Rattle.blocks.specs.Places.{whole_blocks, Whole, file_of, stream_at, payload_of};
 ghost use Rattle.blocks.specs.Headers.{header_byte, swap_of, count_of, announced_in};

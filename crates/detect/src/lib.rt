@@ -1,6 +1,7 @@
 // Detection: what a file is by its magic and its type.
 // Rests on blocks, for places and headers, on magic and on tables.
 #![tactic(auto)]
+
 ghost use Rattle.std.specs.Prelude.{◌≡◌};
 ghost use Rattle.detect.specs.Kinds.{format_of};
 ghost use Rattle.detect.specs.Format.{format_by, detected};

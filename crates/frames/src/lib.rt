@@ -1,6 +1,7 @@
 // Frames of the payload stream: where a block's frames start, the frames of a segment, and a frame's bytes on request.
 // Rests on whole, which says whether the file is taken, and on refusals, blocks and tables.
 #![tactic(auto)]
+
 ghost use Rattle.std.specs.Prelude.{◌≡◌, ◌+◌, ◌*◌, ◌<◌, ◌≤◌, ◌^◌, false, length};
 ghost use Rattle.tables.specs.Lent.{Leaves};
 ghost use Rattle.blocks.specs.Places.{Whole, file_of};

@@ -1,6 +1,7 @@
 // The magic: what a file's first four bytes say. Detection and every whole call go by it.
 // Rests on tables, for its proofs.
 #![tactic(auto)]
+
 ghost use Rattle.std.specs.Prelude.{◌≡◌, ◌≤◌, length, get_or};
 ghost use Rattle.magic.specs.Magics.{spells, names_dss, dss_by, ds2_by, magic_of};
 

@@ -1,6 +1,7 @@
 // SP packets: one read of the payload stream gives one packet. Every function here is for the crates above.
 // Rests on blocks, for places and the stream, and on tables.
 #![tactic(auto)]
+
 ghost use Rattle.std.specs.Prelude.{◌≡◌, ◌+◌, ◌*◌, ◌≤◌, ◌<◌, ◌^◌, ◌%◌, true, false, cond, length, eqb};
 ghost use Rattle.tables.specs.Table.{table};
 ghost use Rattle.blocks.specs.Places.{Whole, stream_at};

@@ -2,6 +2,7 @@
 // bytes are absent. One type for every call of the project, and a function for each cause. Every public function here is for the crates above.
 // Rests on blocks, for the places.
 #![tactic(auto)]
+
 ghost use Rattle.std.specs.Prelude.{◌≡◌};
 ghost use Rattle.refusals.specs.Numbers.{lacking, numbered};
 

@@ -1,6 +1,7 @@
 // What every whole call asks first: whether it takes a file, where that file's audio starts and how many blocks follow. And a block's payload
 // on request. Rests on detect, for the start and the type, on blocks, magic, refusals and tables.
 #![tactic(auto)]
+
 ghost use Rattle.std.specs.Prelude.{◌≡◌, ◌*◌, ◌≤◌, get_or};
 ghost use Rattle.blocks.specs.Places.{Whole};
 ghost use Rattle.refusals.specs.Said.{demand};

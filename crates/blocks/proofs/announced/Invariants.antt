@@ -2,9 +2,7 @@
 -- Assumes nothing.
 use Prim.Native.Nat.{◌*◌, ◌-◌, ◌≤◌}
 use mathlib.Core.Path.{◌≡◌}
-use native.Mathlib.Omega.{arith}
 use Rattle.blocks.specs.Headers.{announced_in}
-use Rattle.blocks.proofs.Headers.{announced_more}
 use Rattle.blocks.proofs.announced.Given as goal
 
 abbrev pub invariant-loop-block : goal.invariant-loop-block

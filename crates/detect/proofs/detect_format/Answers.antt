@@ -3,10 +3,7 @@
 use mathlib.Core.Path.{refl}
 use Rattle.detect.specs.Format.{format_by}
 use Rattle.detect.proofs.Format.{detected_as}
-use borrow.Author.Rules.{rules}
-use Rattle.std.proofs.Common.{rules, ◌≡◌, ℕ, ◌+◌, ◌-◌, ◌*◌, ◌<◌, ◌≤◌, length, ◌/◌, ◌%◌, Bool, true, false, nat_eq, nat_lt, List, [], ◌∷◌, ◌++◌, slice_index_or, slice_set, bit_and, bit_or, Fits, w8, w32, w64, Bor, MutBor}
-use Rattle.detect.specs.Kinds.{format_of}
-use Rattle.detect.specs.Format.{format_by, detected}
+use Rattle.detect.specs.Format.{format_by}
 use Rattle.detect.proofs.detect_format.Goals as goal
 
 pub returns-in-Dss : goal.returns-in-Dss

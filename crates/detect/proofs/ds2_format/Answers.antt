@@ -4,10 +4,6 @@ use native.Mathlib.Omega.{arith}
 use mathlib.Core.Path.{◌∙◌}
 use Rattle.detect.proofs.Start.{start_small}
 use Rattle.detect.proofs.Format.{ds2_short, ds2_cut, ds2_typed}
-use borrow.Author.Rules.{rules}
-use Rattle.std.proofs.Common.{rules, ◌≡◌, ℕ, ◌+◌, ◌-◌, ◌*◌, ◌<◌, ◌≤◌, length, ◌/◌, ◌%◌, Bool, true, false, nat_eq, nat_lt, List, [], ◌∷◌, ◌++◌, slice_index_or, slice_set, bit_and, bit_or, Fits, w8, w32, w64, Bor, MutBor}
-use Rattle.detect.specs.Kinds.{format_of}
-use Rattle.detect.specs.Format.{format_by, detected}
 use Rattle.detect.proofs.ds2_format.Goals as goal
 
 pub returns-then-file-le-TYPE_PLACE : goal.returns-then-file-le-TYPE_PLACE

@@ -2,9 +2,7 @@
 -- Assumes nothing.
 use Rattle.detect.specs.Kinds.{format_of}
 use borrow.Author.Tests.{eq-eqb, ne_eqb}
-use Rattle.std.proofs.Common.{rules, ◌≡◌, ℕ, ◌+◌, ◌-◌, ◌*◌, ◌<◌, ◌≤◌, length, ◌/◌, ◌%◌, Bool, true, false, nat_eq, nat_lt, List, [], ◌∷◌, ◌++◌, slice_index_or, slice_set, bit_and, bit_or, Fits, w8, w32, w64, Bor, MutBor}
 use Rattle.detect.specs.Kinds.{format_of}
-use Rattle.detect.specs.Format.{format_by, detected}
 use Rattle.detect.proofs.format_of.Goals as goal
 
 pub returns-then-byte-eq7 : goal.returns-then-byte-eq7

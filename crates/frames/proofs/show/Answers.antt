@@ -4,17 +4,7 @@ use mathlib.Core.Path.{ap}
 use Rattle.tables.proofs.Tests.{told}
 use Rattle.whole.specs.Admissions.{admission_says}
 use Rattle.frames.proofs.Fetch.{fetched_from, show_refused, show_is}
-use borrow.Author.Rules.{rules}
-use Rattle.std.proofs.Common.{rules, ◌≡◌, ◌+◌, ◌*◌, ◌<◌, ◌≤◌, ◌^◌, false, length, ℕ, ◌-◌, ◌/◌, ◌%◌, Bool, true, nat_eq, nat_lt, List, [], ◌∷◌, ◌++◌, slice_index_or, slice_set, bit_and, bit_or, Fits, w8, w32, w64, Bor, MutBor}
-use Rattle.tables.specs.Lent.{Leaves}
-use Rattle.blocks.specs.Places.{Whole, file_of}
-use Rattle.blocks.specs.Headers.{first_of}
-use Rattle.refusals.specs.Said.{answers, demand}
-use Rattle.whole.specs.Admissions.{admission_says, stream_in}
-use Rattle.frames.specs.Start.{frames_start}
-use Rattle.frames.specs.Frames.{frame_of}
-use Rattle.frames.specs.Fetch.{can_fetch, fetch_from, is_inside, stand_in, standing, fetched_says, filled_from, shown_from, shown, Fills}
-use Rattle.frames.specs.Inner.{Fetchable}
+use Rattle.whole.specs.Admissions.{admission_says}
 use Rattle.frames.proofs.show.Goals as goal
 
 pub returns-in_default : goal.returns-in_default

@@ -2,8 +2,7 @@
 -- Assumes nothing.
 use Rattle.magic.specs.Magics.{ds2_by}
 use borrow.Author.Tests.{eq-eqb, ne_eqb}
-use Rattle.std.proofs.Common.{rules, ◌≡◌, ◌≤◌, length, get_or, ℕ, ◌+◌, ◌-◌, ◌*◌, ◌<◌, ◌/◌, ◌%◌, Bool, true, false, nat_eq, nat_lt, List, [], ◌∷◌, ◌++◌, slice_set, bit_and, bit_or, Fits, w8, w32, w64, Bor, MutBor}
-use Rattle.magic.specs.Magics.{spells, names_dss, dss_by, ds2_by, magic_of}
+use Rattle.magic.specs.Magics.{ds2_by}
 use Rattle.magic.proofs.ds2_by.Goals as goal
 
 pub returns-then-first-eq1 : goal.returns-then-first-eq1

@@ -5,9 +5,7 @@ use borrow.Author.Tests.{eq-eqb, ne_eqb}
 use mathlib.Core.Bool.{and-false}
 use Rattle.tables.proofs.Tests.{both, last_of_all}
 use Rattle.magic.specs.Magics.{spells}
-use borrow.Author.Rules.{rules}
-use Rattle.std.proofs.Common.{rules, ◌≡◌, ◌≤◌, length, get_or, ℕ, ◌+◌, ◌-◌, ◌*◌, ◌<◌, ◌/◌, ◌%◌, Bool, true, false, nat_eq, nat_lt, List, [], ◌∷◌, ◌++◌, slice_set, bit_and, bit_or, Fits, w8, w32, w64, Bor, MutBor}
-use Rattle.magic.specs.Magics.{spells, names_dss, dss_by, ds2_by, magic_of}
+use Rattle.magic.specs.Magics.{spells}
 use Rattle.magic.proofs.is_spelt.Goals as goal
 
 pub returns-then-file-x : goal.returns-then-file-x

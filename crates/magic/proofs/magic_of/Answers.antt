@@ -3,9 +3,7 @@
 use borrow.Author.Tests.{lt-ltb, le-ltb}
 use Rattle.tables.proofs.Tests.{told}
 use Rattle.magic.specs.Magics.{magic_of}
-use borrow.Author.Rules.{rules}
-use Rattle.std.proofs.Common.{rules, ◌≡◌, ◌≤◌, length, get_or, ℕ, ◌+◌, ◌-◌, ◌*◌, ◌<◌, ◌/◌, ◌%◌, Bool, true, false, nat_eq, nat_lt, List, [], ◌∷◌, ◌++◌, slice_set, bit_and, bit_or, Fits, w8, w32, w64, Bor, MutBor}
-use Rattle.magic.specs.Magics.{spells, names_dss, dss_by, ds2_by, magic_of}
+use Rattle.magic.specs.Magics.{magic_of}
 use Rattle.magic.proofs.magic_of.Goals as goal
 
 pub returns-then-file-lt4 : goal.returns-then-file-lt4

@@ -4,9 +4,7 @@ use native.Mathlib.Omega.{arith}
 use mathlib.Core.Bool.{and-false}
 use lib.ListN.{get_or-eq_default}
 use Rattle.magic.specs.Magics.{spells, names_dss}
-use borrow.Author.Rules.{rules}
-use Rattle.std.proofs.Common.{rules, ◌≡◌, ◌≤◌, length, get_or, ℕ, ◌+◌, ◌-◌, ◌*◌, ◌<◌, ◌/◌, ◌%◌, Bool, true, false, nat_eq, nat_lt, List, [], ◌∷◌, ◌++◌, slice_set, bit_and, bit_or, Fits, w8, w32, w64, Bor, MutBor}
-use Rattle.magic.specs.Magics.{spells, names_dss, dss_by, ds2_by, magic_of}
+use Rattle.magic.specs.Magics.{spells, names_dss}
 use Rattle.magic.proofs.names_dss.Goals as goal
 
 pub returns-then-file-lt4 : goal.returns-then-file-lt4

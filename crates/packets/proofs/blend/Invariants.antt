@@ -1,12 +1,11 @@
 -- `packets::blend` meets its contract: each place has the blend of the two shifts so far.
 -- Assumes nothing.
-use Prim.Native.Nat.{◌+◌, ◌-◌, ◌%◌, ◌≤◌, ◌<◌}
-use mathlib.Core.Path.{◌≡◌, refl, ◌∙◌}
+use Prim.Native.Nat.{◌+◌, ◌-◌, ◌%◌, ◌≤◌}
+use mathlib.Core.Path.{◌≡◌}
 use mathlib.Core.Bool.{cond}
 use lib.ListN.{length, get_or}
 use lib.Dec.{eqb}
 use Rattle.tables.specs.Lent.{Leaves}
-use Rattle.tables.proofs.Lent.{leaves_none, leaves_next, leaves_to, leaves_at}
 use Rattle.packets.proofs.blend.Given as goal
 
 abbrev pub invariant-loop-k : goal.invariant-loop-k

@@ -1,11 +1,9 @@
 -- `packets::plain` meets its contract: the bytes so far are copied, and byte 40 is then 0.
 -- Assumes nothing.
-use Prim.Native.Nat.{◌+◌, ◌-◌, ◌≤◌, ◌<◌}
-use mathlib.Core.Path.{◌≡◌, refl}
+use Prim.Native.Nat.{◌+◌, ◌-◌, ◌≤◌}
+use mathlib.Core.Path.{◌≡◌}
 use lib.ListN.{length, get_or}
 use Rattle.tables.specs.Lent.{Leaves}
-use Rattle.tables.proofs.Lent.{leaves_none, leaves_next, leaves_again, leaves_as, leaves_to, leaves_table}
-use Rattle.packets.proofs.Gathered.{plain_is}
 use Rattle.packets.proofs.plain.Given as goal
 
 abbrev pub invariant-loop-k : goal.invariant-loop-k

@@ -4,13 +4,7 @@ use mathlib.Core.Path.{refl}
 use lib.ListN.{get_or-replicate}
 use Rattle.packets.proofs.Gathered.{window_none, window_one, window_two}
 use borrow.Author.Rules.{rules}
-use Rattle.std.proofs.Common.{rules, ◌≡◌, ◌+◌, ◌*◌, ◌≤◌, ◌<◌, ◌^◌, ◌%◌, true, false, cond, length, eqb, ℕ, ◌-◌, ◌/◌, Bool, nat_lt, List, [], ◌∷◌, ◌++◌, slice_index_or, slice_set, bit_and, bit_or, Fits, w8, w32, w64, Bor, MutBor}
-use Rattle.tables.specs.Table.{table}
-use Rattle.blocks.specs.Places.{Whole, stream_at}
-use Rattle.packets.specs.Packet.{read_size, packet_byte, carry_after, from, file_count, IsPacket}
-use Rattle.packets.specs.Start.{dss_start}
-use Rattle.packets.specs.Walk.{reach, parity}
-use Rattle.packets.specs.Inner.{bytes_of, Shifted, Blends, Blended, Window, upto_unswapped}
+use Rattle.std.proofs.Common.{rules}
 use Rattle.packets.proofs.seam.Goals as goal
 
 pub returns-then-blocks-block : goal.returns-then-blocks-block

@@ -1,11 +1,9 @@
 -- `packets::shifted` meets its contract: the bytes so far stand three places on, and what was there before stays.
 -- Assumes nothing.
-use Prim.Native.Nat.{◌+◌, ◌-◌, ◌≤◌, ◌<◌}
-use mathlib.Core.Path.{◌≡◌, refl, ◌∙◌}
-use native.Mathlib.Omega.{arith}
+use Prim.Native.Nat.{◌+◌, ◌-◌, ◌≤◌}
+use mathlib.Core.Path.{◌≡◌}
 use lib.ListN.{length, get_or}
 use Rattle.tables.specs.Lent.{Leaves}
-use Rattle.tables.proofs.Lent.{leaves_none, leaves_more, leaves_to}
 use Rattle.packets.proofs.shifted.Given as goal
 
 abbrev pub invariant-loop-k : goal.invariant-loop-k

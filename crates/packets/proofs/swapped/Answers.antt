@@ -1,18 +1,9 @@
 -- `packets::swapped` meets its contract: the blend so far is copied.
 -- Assumes nothing.
-use Prim.Native.Nat.{◌-◌, ◌≤◌, ◌<◌}
-use mathlib.Core.Path.{◌≡◌, refl}
-use lib.ListN.{length, get_or}
-use Rattle.tables.specs.Lent.{Leaves}
-use Rattle.tables.proofs.Lent.{leaves_none, leaves_next, leaves_as, leaves_to, leaves_table}
+use mathlib.Core.Path.{◌≡◌}
+use Rattle.tables.proofs.Lent.{leaves_as, leaves_to, leaves_table}
 use borrow.Author.Rules.{rules}
-use Rattle.std.proofs.Common.{rules, ◌≡◌, ◌+◌, ◌*◌, ◌≤◌, ◌<◌, ◌^◌, ◌%◌, true, false, cond, length, eqb, ℕ, ◌-◌, ◌/◌, Bool, nat_lt, List, [], ◌∷◌, ◌++◌, slice_index_or, slice_set, bit_and, bit_or, Fits, w8, w32, w64, Bor, MutBor}
-use Rattle.tables.specs.Table.{table}
-use Rattle.blocks.specs.Places.{Whole, stream_at}
-use Rattle.packets.specs.Packet.{read_size, packet_byte, carry_after, from, file_count, IsPacket}
-use Rattle.packets.specs.Start.{dss_start}
-use Rattle.packets.specs.Walk.{reach, parity}
-use Rattle.packets.specs.Inner.{bytes_of, Shifted, Blends, Blended, Window, upto_unswapped}
+use Rattle.std.proofs.Common.{rules, ◌≡◌}
 use Rattle.packets.proofs.swapped.Goals as goal
 
 pub returns : goal.returns

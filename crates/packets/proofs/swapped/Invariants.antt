@@ -1,10 +1,9 @@
 -- `packets::swapped` meets its contract: the blend so far is copied.
 -- Assumes nothing.
-use Prim.Native.Nat.{◌-◌, ◌≤◌, ◌<◌}
-use mathlib.Core.Path.{◌≡◌, refl}
+use Prim.Native.Nat.{◌-◌, ◌≤◌}
+use mathlib.Core.Path.{◌≡◌}
 use lib.ListN.{length, get_or}
 use Rattle.tables.specs.Lent.{Leaves}
-use Rattle.tables.proofs.Lent.{leaves_none, leaves_next, leaves_as, leaves_to, leaves_table}
 use Rattle.packets.proofs.swapped.Given as goal
 
 abbrev pub invariant-loop-k : goal.invariant-loop-k

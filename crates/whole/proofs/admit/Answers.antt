@@ -5,12 +5,9 @@ use mathlib.Core.Path.{ap, ◌∙◌}
 use Rattle.refusals.specs.Said.{demand}
 use Rattle.whole.specs.Admissions.{admission_at}
 use Rattle.whole.proofs.Admissions.{admission_as}
-use borrow.Author.Rules.{rules}
-use Rattle.std.proofs.Common.{rules, ◌≡◌, ◌*◌, ◌≤◌, get_or, ℕ, ◌+◌, ◌-◌, ◌<◌, length, ◌/◌, ◌%◌, Bool, true, false, nat_eq, nat_lt, List, [], ◌∷◌, ◌++◌, slice_set, bit_and, bit_or, Fits, w8, w32, w64, Bor, MutBor}
-use Rattle.blocks.specs.Places.{Whole}
+use Rattle.std.proofs.Common.{ℕ}
 use Rattle.refusals.specs.Said.{demand}
-use Rattle.whole.specs.Admissions.{admission_at, admission, admission_says, type_in, announced_by, of_kind, ds2_admission}
-use Rattle.whole.specs.Payload.{payload_place, payload_says, payload_shown}
+use Rattle.whole.specs.Admissions.{admission_at}
 use Rattle.whole.proofs.admit.Goals as goal
 
 pub returns-in-Dss : goal.returns-in-Dss

@@ -4,12 +4,7 @@ use mathlib.Core.Path.{ap, ◌∙◌}
 use Rattle.tables.proofs.Tests.{told}
 use Rattle.whole.specs.Admissions.{admission_says}
 use Rattle.whole.proofs.Admissions.{ds2_refused, ds2_goes_on}
-use borrow.Author.Rules.{rules}
-use Rattle.std.proofs.Common.{rules, ◌≡◌, ◌*◌, ◌≤◌, get_or, ℕ, ◌+◌, ◌-◌, ◌<◌, length, ◌/◌, ◌%◌, Bool, true, false, nat_eq, nat_lt, List, [], ◌∷◌, ◌++◌, slice_set, bit_and, bit_or, Fits, w8, w32, w64, Bor, MutBor}
-use Rattle.blocks.specs.Places.{Whole}
-use Rattle.refusals.specs.Said.{demand}
-use Rattle.whole.specs.Admissions.{admission_at, admission, admission_says, type_in, announced_by, of_kind, ds2_admission}
-use Rattle.whole.specs.Payload.{payload_place, payload_says, payload_shown}
+use Rattle.whole.specs.Admissions.{admission_says}
 use Rattle.whole.proofs.admit_ds2.Goals as goal
 
 pub returns-in-Refused : goal.returns-in-Refused

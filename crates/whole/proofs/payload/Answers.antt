@@ -1,17 +1,10 @@
 -- `whole::payload` meets its contract: by the ways of a request; the part is that of the block.
 -- Assumes nothing.
 use Rattle.whole.proofs.Payloads.{place_refused, place_absent, block_there, shown_part, shown_none}
-use mathlib.Core.Path.{◌≡◌, ap, ◌∙◌}
-use mathlib.Core.Bool.{true}
+use mathlib.Core.Path.{ap, ◌∙◌}
 use Rattle.tables.proofs.Tests.{told}
-use Rattle.refusals.specs.Said.{answers}
-use Rattle.whole.specs.Admissions.{admission, admission_says}
-use borrow.Author.Rules.{rules}
-use Rattle.std.proofs.Common.{rules, ◌≡◌, ◌*◌, ◌≤◌, get_or, ℕ, ◌+◌, ◌-◌, ◌<◌, length, ◌/◌, ◌%◌, Bool, true, false, nat_eq, nat_lt, List, [], ◌∷◌, ◌++◌, slice_set, bit_and, bit_or, Fits, w8, w32, w64, Bor, MutBor}
-use Rattle.blocks.specs.Places.{Whole}
-use Rattle.refusals.specs.Said.{demand}
-use Rattle.whole.specs.Admissions.{admission_at, admission, admission_says, type_in, announced_by, of_kind, ds2_admission}
-use Rattle.whole.specs.Payload.{payload_place, payload_says, payload_shown}
+use Rattle.whole.specs.Admissions.{admission_says}
+use Rattle.whole.specs.Admissions.{admission_says}
 use Rattle.whole.proofs.payload.Goals as goal
 
 pub returns-in_default : goal.returns-in_default

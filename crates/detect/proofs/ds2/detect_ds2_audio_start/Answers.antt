@@ -4,11 +4,7 @@ use mathlib.Core.Path.{◌∙◌}
 use Rattle.tables.proofs.Tests.{told}
 use borrow.Author.Tests.{eq-eqb, ne_eqb}
 use Rattle.detect.specs.Start.{audio_start}
-use borrow.Author.Rules.{rules}
-use Rattle.std.proofs.Common.{rules, ◌≡◌, ◌-◌, min, drop, ℕ, ◌+◌, ◌*◌, ◌<◌, ◌≤◌, length, ◌/◌, ◌%◌, Bool, true, false, nat_eq, nat_lt, List, [], ◌∷◌, ◌++◌, slice_index_or, slice_set, bit_and, bit_or, Fits, w8, w32, w64, Bor, MutBor}
-use Rattle.detect.specs.Header.{good_type, good_header}
-use Rattle.detect.specs.Start.{scanned, audio_start}
-use Rattle.detect.specs.Kinds.{format_type, kind_of, same_kind, read_as}
+use Rattle.detect.specs.Start.{audio_start}
 use Rattle.detect.proofs.ds2.detect_ds2_audio_start.Goals as goal
 
 pub returns-then-first_byte-eq7 : goal.returns-then-first_byte-eq7

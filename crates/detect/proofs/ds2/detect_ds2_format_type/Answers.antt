@@ -1,16 +1,14 @@
 -- `detect::ds2::detect_ds2_format_type` meets its contract: the type of the file is that of the blocks still left.
 -- Assumes nothing.
 use native.Mathlib.Nat.{sub-zero}
-use Prim.Native.Nat.{suc, ◌+◌, ◌-◌, ◌≤◌}
+use Prim.Native.Nat.{suc, ◌+◌, ◌-◌}
 use mathlib.Core.Path.{◌≡◌, sym, ◌∙◌}
 use native.Mathlib.Omega.{arith}
-use Rattle.detect.specs.Kinds.{format_type, first_type}
+use Rattle.detect.specs.Kinds.{format_type}
 use Rattle.detect.proofs.Types.{type_none, type_here, type_later}
 use borrow.Author.Rules.{rules}
-use Rattle.std.proofs.Common.{rules, ◌≡◌, ◌-◌, min, drop, ℕ, ◌+◌, ◌*◌, ◌<◌, ◌≤◌, length, ◌/◌, ◌%◌, Bool, true, false, nat_eq, nat_lt, List, [], ◌∷◌, ◌++◌, slice_index_or, slice_set, bit_and, bit_or, Fits, w8, w32, w64, Bor, MutBor}
-use Rattle.detect.specs.Header.{good_type, good_header}
-use Rattle.detect.specs.Start.{scanned, audio_start}
-use Rattle.detect.specs.Kinds.{format_type, kind_of, same_kind, read_as}
+use Rattle.std.proofs.Common.{rules, ◌≡◌, ◌-◌, ◌+◌}
+use Rattle.detect.specs.Kinds.{format_type}
 use Rattle.detect.proofs.ds2.detect_ds2_format_type.Goals as goal
 
 pub loop-block-init : goal.loop-block-init

@@ -1,11 +1,8 @@
 -- `detect::ds2::detect_ds2_format_type` meets its contract: the type of the file is that of the blocks still left.
 -- Assumes nothing.
-use native.Mathlib.Nat.{sub-zero}
-use Prim.Native.Nat.{suc, ◌+◌, ◌-◌, ◌≤◌}
-use mathlib.Core.Path.{◌≡◌, sym, ◌∙◌}
-use native.Mathlib.Omega.{arith}
+use Prim.Native.Nat.{◌-◌, ◌≤◌}
+use mathlib.Core.Path.{◌≡◌}
 use Rattle.detect.specs.Kinds.{format_type, first_type}
-use Rattle.detect.proofs.Types.{type_none, type_here, type_later}
 use Rattle.detect.proofs.ds2.detect_ds2_format_type.Given as goal
 
 abbrev pub invariant-loop-block : goal.invariant-loop-block

@@ -4,11 +4,7 @@ use mathlib.Core.Bool.{and-false}
 use Rattle.tables.proofs.Tests.{both, last_of_all}
 use borrow.Author.Tests.{eq-eqb, ne_eqb, lt-ltb, le-ltb, lt-leb, le-leb}
 use Rattle.detect.specs.Header.{good_header}
-use borrow.Author.Rules.{rules}
-use Rattle.std.proofs.Common.{rules, ◌≡◌, ◌-◌, min, drop, ℕ, ◌+◌, ◌*◌, ◌<◌, ◌≤◌, length, ◌/◌, ◌%◌, Bool, true, false, nat_eq, nat_lt, List, [], ◌∷◌, ◌++◌, slice_index_or, slice_set, bit_and, bit_or, Fits, w8, w32, w64, Bor, MutBor}
-use Rattle.detect.specs.Header.{good_type, good_header}
-use Rattle.detect.specs.Start.{scanned, audio_start}
-use Rattle.detect.specs.Kinds.{format_type, kind_of, same_kind, read_as}
+use Rattle.detect.specs.Header.{good_header}
 use Rattle.detect.proofs.ds2.is_ds2_audio_block_header.Goals as goal
 
 pub returns-then-header-lt-HEADER : goal.returns-then-header-lt-HEADER

@@ -2,10 +2,7 @@
 -- Assumes nothing.
 use Rattle.detect.specs.Kinds.{kind_of}
 use borrow.Author.Tests.{eq-eqb, le-ltb, lt-ltb, ne_eqb}
-use Rattle.std.proofs.Common.{rules, ◌≡◌, ◌-◌, min, drop, ℕ, ◌+◌, ◌*◌, ◌<◌, ◌≤◌, length, ◌/◌, ◌%◌, Bool, true, false, nat_eq, nat_lt, List, [], ◌∷◌, ◌++◌, slice_index_or, slice_set, bit_and, bit_or, Fits, w8, w32, w64, Bor, MutBor}
-use Rattle.detect.specs.Header.{good_type, good_header}
-use Rattle.detect.specs.Start.{scanned, audio_start}
-use Rattle.detect.specs.Kinds.{format_type, kind_of, same_kind, read_as}
+use Rattle.detect.specs.Kinds.{kind_of}
 use Rattle.detect.proofs.ds2.kind_of.Goals as goal
 
 pub returns-then-byte-lt6 : goal.returns-then-byte-lt6

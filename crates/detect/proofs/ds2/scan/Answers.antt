@@ -1,19 +1,15 @@
 -- `detect::ds2::scan` meets its contract: what is left to scan gives what the whole scan gives, and the inner count is the candidate's score so far.
 -- Assumes nothing.
-use Prim.Native.Nat.{ℕ, suc, ◌+◌, ◌-◌, ◌/◌, ◌%◌, ◌≤◌, ◌<◌, min}
+use Prim.Native.Nat.{ℕ, suc, ◌+◌, ◌-◌, ◌/◌, ◌≤◌, ◌<◌, min}
 use mathlib.Core.Path.{◌≡◌, sym, ◌∙◌}
-use mathlib.Core.Logic.{⊎_elim}
-use borrow.Author.Tests.{not-true, not-false}
 use lib.ListN.{length}
 use native.Mathlib.Omega.{arith}
-use Rattle.detect.specs.Start.{score, scan, scanned}
-use Rattle.detect.proofs.Start.{Ran, ran_none, ran_more, ran_ends, scan_none, scan_four, scan_better, scan_worse}
+use Rattle.detect.specs.Start.{score, scanned}
+use Rattle.detect.proofs.Start.{ran_more, ran_ends, scan_none, scan_four, scan_better, scan_worse}
 use Rattle.tables.proofs.Tests.{told}
 use borrow.Author.Rules.{rules}
-use Rattle.std.proofs.Common.{rules, ◌≡◌, ◌-◌, min, drop, ℕ, ◌+◌, ◌*◌, ◌<◌, ◌≤◌, length, ◌/◌, ◌%◌, Bool, true, false, nat_eq, nat_lt, List, [], ◌∷◌, ◌++◌, slice_index_or, slice_set, bit_and, bit_or, Fits, w8, w32, w64, Bor, MutBor}
-use Rattle.detect.specs.Header.{good_type, good_header}
-use Rattle.detect.specs.Start.{scanned, audio_start}
-use Rattle.detect.specs.Kinds.{format_type, kind_of, same_kind, read_as}
+use Rattle.std.proofs.Common.{rules, ◌≡◌, ◌-◌, min, ℕ, ◌+◌, ◌<◌, ◌≤◌, length, ◌/◌}
+use Rattle.detect.specs.Start.{scanned}
 use Rattle.detect.proofs.ds2.scan.Goals as goal
 use Rattle.detect.proofs.ds2.scan.Goals.{else-loop-valid-test, then-loop-valid-test+then-not-is_good_at, then-most-valid, else-most-valid}
 
@@ -27,12 +23,11 @@ scan-init c =
     (search rules, (search rules, (search rules, (search rules, rw e))))
 
 pub loop-valid-preserved : goal.loop-valid-preserved
-loop-valid-preserved c =
-    (
-      omega arith,
-      ran_more c.args.file.now c.scan.offset c.loop-valid.valid (search rules)
-          (told c.is_good_at.ensures c.if-not-is_good_at.false) c.loop-valid.invariant.1,
-    )
+loop-valid-preserved c = (
+  omega arith,
+  ran_more c.args.file.now c.scan.offset c.loop-valid.valid (search rules)
+      (told c.is_good_at.ensures c.if-not-is_good_at.false) c.loop-valid.invariant.1,
+)
 
 pub scan-preserved : goal.scan-preserved
 scan-preserved c =
@@ -42,15 +37,27 @@ scan-preserved c =
     let q : (z + 512 - v.offset) / 512 ≡ suc ((z + 512 - (v.offset + 512)) / 512) = omega arith in
     -- where the inner loop was left, its count is the candidate's score
     let counted : score c.args.file.now v.offset ≡ c.loop-valid.valid =
-        elim c.loop-valid-test.branch [
-          else-loop-valid-test w ↦ absurd (no_more c.loop-valid.valid n w.loop-valid-test.false)
-        | then-loop-valid-test+then-not-is_good_at w ↦
-            ran_ends c.args.file.now v.offset c.loop-valid.valid w.loop-valid-test.true (told w.is_good_at.ensures w.if-not-is_good_at.true) c.loop-valid.invariant.1
-        ] in
-    (search rules, (search rules, (search rules, (search rules, v.invariant.1.1.1.1
-        ∙ (elim c.if-most-valid.branch [
-            then-most-valid w ↦ scan_better _ _ _ _ _ _ _ q counted n w.if-most-valid.true ∙ cc
-          | else-most-valid w ↦ scan_worse _ _ _ _ _ _ _ q counted n w.if-most-valid.false ∙ cc ])))))
+    elim c.loop-valid-test.branch [
+      | else-loop-valid-test w ↦ absurd (no_more c.loop-valid.valid n w.loop-valid-test.false)
+      | then-loop-valid-test+then-not-is_good_at w ↦
+          ran_ends c.args.file.now v.offset c.loop-valid.valid w.loop-valid-test.true (told w.is_good_at.ensures w.if-not-is_good_at.true) c.loop-valid.invariant.1
+    ] in (
+      search rules,
+      (
+        search rules,
+        (
+          search rules,
+          (
+            search rules,
+            v.invariant.1.1.1.1
+                ∙ (elim c.if-most-valid.branch [
+                  | then-most-valid w ↦ scan_better _ _ _ _ _ _ _ q counted n w.if-most-valid.true ∙ cc
+                  | else-most-valid w ↦ scan_worse _ _ _ _ _ _ _ q counted n w.if-most-valid.false ∙ cc
+                ]),
+          ),
+        ),
+      ),
+    )
 
 pub returns-then-end-offset : goal.returns-then-end-offset
 returns-then-end-offset c =

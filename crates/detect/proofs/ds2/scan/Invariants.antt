@@ -1,14 +1,9 @@
 -- `detect::ds2::scan` meets its contract: what is left to scan gives what the whole scan gives, and the inner count is the candidate's score so far.
 -- Assumes nothing.
-use Prim.Native.Nat.{ℕ, suc, ◌+◌, ◌-◌, ◌/◌, ◌%◌, ◌≤◌, ◌<◌, min}
-use mathlib.Core.Path.{◌≡◌, sym, ◌∙◌}
-use mathlib.Core.Logic.{⊎_elim}
-use borrow.Author.Tests.{not-true, not-false}
-use lib.ListN.{length}
-use native.Mathlib.Omega.{arith}
-use Rattle.detect.specs.Start.{score, scan, scanned}
-use Rattle.detect.proofs.Start.{Ran, ran_none, ran_more, ran_ends, scan_none, scan_four, scan_better, scan_worse}
-use Rattle.tables.proofs.Tests.{told}
+use Prim.Native.Nat.{◌+◌, ◌-◌, ◌/◌, ◌%◌, ◌≤◌, ◌<◌}
+use mathlib.Core.Path.{◌≡◌}
+use Rattle.detect.specs.Start.{scan, scanned}
+use Rattle.detect.proofs.Start.{Ran}
 use Rattle.detect.proofs.ds2.scan.Given as goal
 
 abbrev pub invariant-loop-valid : goal.invariant-loop-valid
