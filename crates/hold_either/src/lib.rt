@@ -1,6 +1,7 @@
 // A recording of either kind, block by block: the packets that become ready by a block are handed out, and those that are owed at the end.
 // Rests on hold_ds2 and hold_dss, on hold, for the blocks that wait, and on blocks. What is public here is for the crates above.
 #![tactic(auto)]
+
 ghost use Rattle.std.specs.Prelude.{◌≡◌, ◌+◌, length};
 ghost use Rattle.hold.specs.Ready.{reading_in, ready};
 ghost use Rattle.hold.specs.Inner.{PartWritten, Next, Added, Owing};

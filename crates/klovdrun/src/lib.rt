@@ -1,6 +1,7 @@
 // For the host: a reader that is advanced where it stands, and the public calls under C names. Nothing is decided here: an export calls
 // one of the crates below and hands its numbers over. Rests on all of them. include/klovdrun.h says the same in C.
 #![tactic(auto)]
+
 ghost use Rattle.std.specs.Prelude.{◌≡◌, length};
 ghost use Rattle.detect.specs.Header.{good_header};
 ghost use Rattle.detect.specs.Start.{audio_start};

@@ -1,6 +1,7 @@
 // The numbers that an answer of the crates below is handed over as, for C. Everything public here is for the crates above. Rests on the
 // enums of those crates.
 #![tactic(auto)]
+
 ghost use Rattle.std.specs.Prelude.{◌≡◌};
 ghost use Rattle.refusals.specs.Said.{answers, refusal};
 ghost use Rattle.whole.specs.Payload.{payload_says};

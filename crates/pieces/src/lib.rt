@@ -2,6 +2,7 @@
 // another. Everything public here is for the crates above. Rests on hold, for what is held, on hold_either, for a block more, on sp,
 // for the answer's form, on packets, refusals, blocks and tables.
 #![tactic(auto)]
+
 ghost use Rattle.std.specs.Prelude.{◌≡◌, true, false, ◌-◌};
 ghost use Rattle.refusals.specs.Said.{answers, refusal};
 ghost use Rattle.sp.specs.Outcome.{demuxed_says};

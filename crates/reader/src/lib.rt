@@ -2,6 +2,7 @@
 // leniently. What `Ds2SpStreamDemuxer` and `DssSpStreamDemuxer` do. Rests on pieces, for a piece, on hold and hold_either, for packets that
 // are owed, on sp, for the answer's form, on packets, refusals, blocks and tables.
 #![tactic(auto)]
+
 ghost use Rattle.std.specs.Prelude.{◌≡◌, true, cond, ◌+◌, ◌-◌, ◌/◌, ◌%◌, ◌≤◌, ◌<◌, ◌^◌, min, eqb, leb};
 ghost use Rattle.refusals.specs.Said.{answers, demand};
 ghost use Rattle.sp.specs.Outcome.{demuxed_says};

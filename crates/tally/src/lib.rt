@@ -1,6 +1,7 @@
 // The tally of any file: what its whole reading would hand out, in numbers, with no packet, segment or record stored. SP packets are
 // counted a run at a time, with no walk over them. Rests on the whole readings and on all that they rest on.
 #![tactic(auto)]
+
 ghost use Rattle.std.specs.Prelude.{◌≡◌, ◌+◌, ◌-◌, ◌<◌, ◌^◌};
 ghost use Rattle.whole.specs.Admissions.{Sound, announced_by};
 ghost use Rattle.tally.specs.Inner.{together};

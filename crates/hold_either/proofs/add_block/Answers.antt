@@ -1,8 +1,6 @@
 -- `hold_either::add_block` meets its contract: of either kind, the one that it is.
 -- Assumes nothing.
-use Rattle.hold.proofs.Adding.{next_as, added_as}
-use borrow.Author.Rules.{rules}
-use Rattle.std.proofs.Common.{◌≡◌, ◌+◌, ◌-◌, ◌*◌, ◌<◌, ◌≤◌, ◌/◌, ◌%◌, [], ◌∷◌, ◌++◌}
+use Rattle.hold.proofs.Adding.{added_as}
 use Rattle.hold_either.proofs.add_block.Goals as goal
 
 pub returns-then-dss : goal.returns-then-dss

@@ -1,9 +1,6 @@
 -- `hold_either::write_owed` meets its contract: the reads of what is owed begin where the hold does, or after.
 -- Assumes nothing.
-use native.Mathlib.Omega.{arith}
-use Rattle.hold_either.proofs.Owing.{few_owed, queue_owed, queue_handed, walk_owed, walk_handed, owing_as, written_as}
-use borrow.Author.Rules.{rules}
-use Rattle.std.proofs.Common.{◌≡◌, ◌+◌, ◌-◌, ◌*◌, ◌<◌, ◌≤◌, ◌/◌, ◌%◌, [], ◌∷◌, ◌++◌}
+use Rattle.hold_either.proofs.Owing.{queue_owed, queue_handed, walk_owed, walk_handed, owing_as, written_as}
 use Rattle.hold_either.proofs.write_owed.Goals as goal
 
 pub write_waiting-requires-clause-queued : goal.write_waiting-requires-clause-queued

@@ -2,7 +2,6 @@
 -- Assumes nothing.
 use borrow.Author.Tests.{eq-eqb, ne_eqb}
 use Rattle.reader.specs.State.{is_kind}
-use Rattle.std.proofs.Common.{◌≡◌, ◌+◌, ◌-◌, ◌/◌, ◌%◌, ◌≤◌, ◌<◌, ◌^◌, ◌*◌, [], ◌∷◌, ◌++◌}
 use Rattle.reader.proofs.is_kind.Goals as goal
 
 pub returns-then-kind-eq0 : goal.returns-then-kind-eq0

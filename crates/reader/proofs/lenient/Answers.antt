@@ -4,8 +4,6 @@ use mathlib.Core.Path.{sym, ap, ◌∙◌}
 use Rattle.refusals.specs.Said.{answers}
 use Rattle.pieces.proofs.Judging.{says_no, says_yes}
 use Rattle.reader.proofs.Ends.{lenient_cut, lenient_ends}
-use borrow.Author.Rules.{rules}
-use Rattle.std.proofs.Common.{◌≡◌, ◌+◌, ◌-◌, ◌/◌, ◌%◌, ◌≤◌, ◌<◌, ◌^◌, ◌*◌, [], ◌∷◌, ◌++◌}
 use Rattle.reader.proofs.lenient.Goals as goal
 
 pub returns-then-header_done : goal.returns-then-header_done

@@ -3,7 +3,6 @@
 use Rattle.reader.specs.State.{start_of}
 use Rattle.reader.proofs.Opened.{by_kind}
 use borrow.Author.Rules.{rules}
-use Rattle.std.proofs.Common.{◌≡◌, ◌+◌, ◌-◌, ◌/◌, ◌%◌, ◌≤◌, ◌<◌, ◌^◌, ◌*◌, [], ◌∷◌, ◌++◌}
 use Rattle.reader.proofs.start_of.Goals as goal
 
 pub returns-then-kind-eq2 : goal.returns-then-kind-eq2

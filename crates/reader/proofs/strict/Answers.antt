@@ -1,11 +1,8 @@
 -- `reader::strict` meets its contract: by the tests, one after another.
 -- Assumes nothing.
 use mathlib.Core.Path.{sym, ◌∙◌}
-use borrow.Author.Tests.{not-true, not-false}
 use Rattle.pieces.proofs.Judging.{says_no, says_yes}
 use Rattle.reader.proofs.Ends.{strict_drains, strict_ended, strict_cut, strict_inside, strict_owes, strict_ends}
-use borrow.Author.Rules.{rules}
-use Rattle.std.proofs.Common.{◌≡◌, ◌+◌, ◌-◌, ◌/◌, ◌%◌, ◌≤◌, ◌<◌, ◌^◌, ◌*◌, [], ◌∷◌, ◌++◌}
 use Rattle.reader.proofs.strict.Goals as goal
 
 pub returns-then-phase-eq1 : goal.returns-then-phase-eq1

@@ -5,8 +5,6 @@ use Rattle.tables.proofs.Tests.{told}
 use Rattle.whole.specs.Admissions.{admission_says}
 use Rattle.whole.proofs.Admissions.{sound}
 use Rattle.tally.proofs.Ways.{not_admitted, admitted}
-use borrow.Author.Rules.{rules}
-use Rattle.std.proofs.Common.{◌≡◌, ◌+◌, ◌-◌, ◌<◌, ◌^◌, ◌*◌, ◌≤◌, ◌/◌, ◌%◌, [], ◌∷◌, ◌++◌}
 use Rattle.tally.proofs.tally.Goals as goal
 
 pub count-requires : goal.count-requires

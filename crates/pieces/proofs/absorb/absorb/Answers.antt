@@ -1,16 +1,8 @@
 -- `pieces::absorb::absorb` meets its contract: the blocks before b have been added, and what they brought stands in front.
 -- Assumes nothing.
-use Prim.Native.Nat.{ℕ, ◌+◌, ◌-◌, ◌≤◌}
-use mathlib.Core.Path.{refl}
-use mathlib.Core.List.{List}
-use lib.ListN.{length}
-use borrow.Author.Tests.{not-true, not-false}
 use native.Mathlib.Omega.{arith}
-use Rattle.tables.proofs.Cases.{never}
-use Rattle.blocks.specs.Places.{limit}
-use Rattle.pieces.proofs.Absorbing.{May, Turns, turns_begin, lent_long, ready_grown, comes, turned, absorbed}
+use Rattle.pieces.proofs.Absorbing.{ready_grown, comes, turned, absorbed}
 use borrow.Author.Rules.{rules}
-use Rattle.std.proofs.Common.{◌≡◌, ◌*◌, ◌<◌, ◌/◌, ◌%◌, [], ◌∷◌, ◌++◌}
 use Rattle.pieces.proofs.absorb.absorb.Goals as goal
 
 pub overflow_sub-number : goal.overflow_sub-number

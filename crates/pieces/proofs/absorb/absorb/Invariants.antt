@@ -1,14 +1,7 @@
 -- `pieces::absorb::absorb` meets its contract: the blocks before b have been added, and what they brought stands in front.
 -- Assumes nothing.
-use Prim.Native.Nat.{ℕ, ◌+◌, ◌-◌, ◌≤◌}
-use mathlib.Core.Path.{refl}
-use mathlib.Core.List.{List}
-use lib.ListN.{length}
-use borrow.Author.Tests.{not-true, not-false}
-use native.Mathlib.Omega.{arith}
-use Rattle.tables.proofs.Cases.{never}
-use Rattle.blocks.specs.Places.{limit}
-use Rattle.pieces.proofs.Absorbing.{May, Turns, turns_begin, lent_long, ready_grown, comes, turned, absorbed}
+use Prim.Native.Nat.{◌-◌}
+use Rattle.pieces.proofs.Absorbing.{Turns}
 use Rattle.pieces.proofs.absorb.absorb.Given as goal
 
 abbrev pub invariant-loop-b : goal.invariant-loop-b

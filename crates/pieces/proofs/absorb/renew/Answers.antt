@@ -2,7 +2,6 @@
 -- Assumes nothing.
 use Rattle.pieces.proofs.Absorbing.{renewed}
 use borrow.Author.Rules.{rules}
-use Rattle.std.proofs.Common.{◌≡◌, ◌+◌, ◌*◌, ◌-◌, ◌≤◌, ◌<◌, ◌/◌, ◌%◌, [], ◌∷◌, ◌++◌}
 use Rattle.pieces.proofs.absorb.renew.Goals as goal
 
 pub returns : goal.returns

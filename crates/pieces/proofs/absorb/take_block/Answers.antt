@@ -1,8 +1,6 @@
 -- `pieces::absorb::take_block` meets its contract: the block's bytes stand in the piece, or in what was kept, made anew.
 -- Assumes nothing.
 use Rattle.pieces.proofs.Absorbing.{in_piece, in_partial, next_from, added_from}
-use borrow.Author.Rules.{rules}
-use Rattle.std.proofs.Common.{◌≡◌, ◌+◌, ◌*◌, ◌-◌, ◌≤◌, ◌<◌, ◌/◌, ◌%◌, [], ◌∷◌, ◌++◌}
 use Rattle.pieces.proofs.absorb.take_block.Goals as goal
 
 pub returns-then-taken-place : goal.returns-then-taken-place

@@ -1,12 +1,8 @@
 -- `pieces::survey::block_fits` meets its contract: where the hold begins is known with no walk.
 -- Assumes nothing.
 use mathlib.Core.Path.{ap, ◌∙◌}
-use native.Mathlib.Omega.{arith}
 use Rattle.packets.specs.Walk.{reach}
-use Rattle.packets.proofs.Reaches.{reach_most}
 use Rattle.pieces.proofs.Surveying.{base_is}
-use borrow.Author.Rules.{rules}
-use Rattle.std.proofs.Common.{◌≡◌, ◌+◌, ◌*◌, ◌-◌, ◌≤◌, ◌<◌, ◌/◌, ◌%◌, [], ◌∷◌, ◌++◌}
 use Rattle.pieces.proofs.survey.block_fits.Goals as goal
 
 pub returns : goal.returns

@@ -1,11 +1,8 @@
 -- `pieces::survey::dss_ready` meets its contract: the blocks so far leave, and their packets are added up.
 -- Assumes nothing.
-use Prim.Native.Nat.{ℕ, ◌*◌, ◌-◌, ◌≤◌}
-use mathlib.Core.List.{List}
 use native.Mathlib.Omega.{arith}
-use Rattle.pieces.proofs.Leaving.{Queue, Leaving, few_queue, queued, leaving_begins, leaving_on, leaving_stops, leaving_ends}
+use Rattle.pieces.proofs.Leaving.{few_queue, queued, leaving_begins, leaving_on, leaving_stops, leaving_ends}
 use borrow.Author.Rules.{rules}
-use Rattle.std.proofs.Common.{◌≡◌, ◌+◌, ◌<◌, ◌/◌, ◌%◌, [], ◌∷◌, ◌++◌}
 use Rattle.pieces.proofs.survey.dss_ready.Goals as goal
 
 pub loop-block-init : goal.loop-block-init
@@ -24,14 +21,13 @@ returns-then-long-ends_at c =
     leaving_stops queue (c.loop-block.invariant.3 f queue) (search rules) c.run_at-run.ensures.2 c.ends_at.ensures c.if-long-ends_at.true
 
 pub loop-block-preserved : goal.loop-block-preserved
-loop-block-preserved c =
-    (
-      search rules,
-      search rules,
-      search rules,
-      λ f queue.
-          leaving_on queue (c.loop-block.invariant.3 f queue) (search rules) c.run_at-run.ensures.2 c.ends_at.ensures c.if-long-ends_at.false,
-    )
+loop-block-preserved c = (
+  search rules,
+  search rules,
+  search rules,
+  λ f queue.
+      leaving_on queue (c.loop-block.invariant.3 f queue) (search rules) c.run_at-run.ensures.2 c.ends_at.ensures c.if-long-ends_at.false,
+)
 
 pub returns : goal.returns
 returns c =

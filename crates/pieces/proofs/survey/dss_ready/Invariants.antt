@@ -2,8 +2,7 @@
 -- Assumes nothing.
 use Prim.Native.Nat.{ℕ, ◌*◌, ◌-◌, ◌≤◌}
 use mathlib.Core.List.{List}
-use native.Mathlib.Omega.{arith}
-use Rattle.pieces.proofs.Leaving.{Queue, Leaving, few_queue, queued, leaving_begins, leaving_on, leaving_stops, leaving_ends}
+use Rattle.pieces.proofs.Leaving.{Queue, Leaving}
 use Rattle.pieces.proofs.survey.dss_ready.Given as goal
 
 abbrev pub invariant-loop-block : goal.invariant-loop-block

@@ -3,8 +3,6 @@
 use mathlib.Core.Path.{sym, ◌∙◌}
 use Rattle.hold.proofs.Front.{dss_fits}
 use Rattle.pieces.proofs.Judging.{judged_by}
-use borrow.Author.Rules.{rules}
-use Rattle.std.proofs.Common.{◌≡◌, ◌+◌, ◌*◌, ◌-◌, ◌≤◌, ◌<◌, ◌/◌, ◌%◌, [], ◌∷◌, ◌++◌}
 use Rattle.pieces.proofs.survey.judge.Goals as goal
 
 pub returns-then-dss : goal.returns-then-dss

@@ -3,8 +3,6 @@
 use mathlib.Core.Path.{◌∙◌}
 use Rattle.pieces.proofs.Surveying.{announced_few, ready_after}
 use Rattle.pieces.proofs.Judging.{judged_by}
-use borrow.Author.Rules.{rules}
-use Rattle.std.proofs.Common.{◌≡◌, ◌+◌, ◌*◌, ◌-◌, ◌≤◌, ◌<◌, ◌/◌, ◌%◌, [], ◌∷◌, ◌++◌}
 use Rattle.pieces.proofs.survey.judge_ds2.Goals as goal
 
 pub look_over-found-requires-clause-few : goal.look_over-found-requires-clause-few

@@ -2,8 +2,7 @@
 -- Assumes nothing.
 use Prim.Native.Nat.{ℕ, ◌*◌, ◌-◌, ◌≤◌}
 use mathlib.Core.List.{List}
-use borrow.Author.Tests.{not-true, not-false}
-use Rattle.pieces.proofs.Surveying.{Passed, Begun, look_begins, look_on, look_stops, look_ends}
+use Rattle.pieces.proofs.Surveying.{Passed, Begun}
 use Rattle.pieces.proofs.survey.look_over.Given as goal
 
 abbrev pub invariant-loop-b : goal.invariant-loop-b

@@ -1,8 +1,6 @@
 -- `reader::Reader::open` meets its contract: a fresh reader, by whether there is such a kind.
 -- Assumes nothing.
 use Rattle.reader.proofs.Opened.{opens}
-use borrow.Author.Rules.{rules}
-use Rattle.std.proofs.Common.{◌≡◌, ◌+◌, ◌-◌, ◌/◌, ◌%◌, ◌≤◌, ◌<◌, ◌^◌, ◌*◌, [], ◌∷◌, ◌++◌}
 use Rattle.reader.proofs.Reader.open.Goals as goal
 
 pub returns : goal.returns

@@ -1,8 +1,6 @@
 -- `tally::in_frames::after_arrival` meets its contract: at the read place nothing is closed, elsewhere the open segment is.
 -- Assumes nothing.
 use Rattle.tally.proofs.Segmentwise.{none_closed, one_closed}
-use borrow.Author.Rules.{rules}
-use Rattle.std.proofs.Common.{◌≡◌, ◌+◌, ◌*◌, ◌≤◌, ◌<◌, ◌^◌, [], ◌∷◌, ◌-◌, ◌/◌, ◌%◌, ◌++◌}
 use Rattle.tally.proofs.in_frames.after_arrival.Goals as goal
 
 pub returns-then-at-gathering : goal.returns-then-at-gathering

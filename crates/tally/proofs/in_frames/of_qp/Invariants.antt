@@ -1,12 +1,8 @@
 -- `tally::in_frames::of_qp` meets its contract: it adds up the segments as the blocks close them, and then the open one.
 -- Assumes nothing.
-use Prim.Native.Nat.{◌-◌, ◌*◌}
-use native.Mathlib.Omega.{arith}
-use Rattle.whole.proofs.Admissions.{few_blocks}
-use Rattle.qp.specs.Segments.{moved, gathered_to}
-use Rattle.qp.proofs.Gathers.{near_within}
-use Rattle.qp.proofs.Blockwise.{Blockwise, blocks_begin, blocks_go_on}
-use Rattle.tally.proofs.Segmentwise.{Handing, handing_begins, handing_goes_on, handing_ends}
+use Prim.Native.Nat.{◌-◌}
+use Rattle.qp.proofs.Blockwise.{Blockwise}
+use Rattle.tally.proofs.Segmentwise.{Handing}
 use Rattle.tally.proofs.in_frames.of_qp.Given as goal
 
 abbrev pub invariant-loop-block : goal.invariant-loop-block

@@ -9,8 +9,6 @@ use Rattle.whole.proofs.Admissions.{few_blocks}
 use Rattle.sp.proofs.ReadLists.{ds2_packets}
 use Rattle.tally.proofs.Packetwise.{nothing_out, run_alone}
 use Rattle.tally.proofs.Runwise.{none_past}
-use borrow.Author.Rules.{rules}
-use Rattle.std.proofs.Common.{◌≡◌, ◌+◌, ◌*◌, ◌≤◌, ◌<◌, ◌^◌, ◌-◌, ◌/◌, ◌%◌, ◌∷◌, ◌++◌}
 use Rattle.tally.proofs.in_packets.of_ds2.Goals as goal
 
 pub returns-then-blocks-eq0 : goal.returns-then-blocks-eq0

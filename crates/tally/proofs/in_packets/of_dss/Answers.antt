@@ -1,12 +1,6 @@
 -- `tally::in_packets::of_dss` meets its contract: after b blocks it has what their runs hand out.
 -- Assumes nothing.
-use Prim.Native.Nat.{◌-◌}
-use native.Mathlib.Omega.{arith}
-use Rattle.blocks.specs.Places.{stream_at}
-use Rattle.whole.proofs.Admissions.{few_blocks}
-use Rattle.tally.proofs.Runwise.{Runwise, runs_begin, runs_go_on, runs_end}
-use borrow.Author.Rules.{rules}
-use Rattle.std.proofs.Common.{◌≡◌, ◌+◌, ◌*◌, ◌≤◌, ◌<◌, ◌^◌, ◌/◌, ◌%◌, [], ◌∷◌, ◌++◌}
+use Rattle.tally.proofs.Runwise.{runs_begin, runs_go_on}
 use Rattle.tally.proofs.in_packets.of_dss.Goals as goal
 
 pub loop-block-init : goal.loop-block-init

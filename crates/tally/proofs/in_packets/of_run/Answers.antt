@@ -5,8 +5,6 @@ use mathlib.Core.Path.{ap, ◌∙◌}
 use native.Mathlib.Omega.{arith}
 use Rattle.tally.specs.Inner.{adds_by}
 use Rattle.tally.proofs.Past.{run_added}
-use borrow.Author.Rules.{rules}
-use Rattle.std.proofs.Common.{◌≡◌, ◌+◌, ◌*◌, ◌≤◌, ◌<◌, ◌^◌, ◌/◌, ◌%◌, [], ◌∷◌, ◌++◌}
 use Rattle.tally.proofs.in_packets.of_run.Goals as goal
 
 pub returns-then-end-left-clause-adds : goal.returns-then-end-left-clause-adds

@@ -1,14 +1,8 @@
 -- `tally::in_records::of_qp7` meets its contract: the walk stands for what the blocks so far gather, and the bytes are those of its records.
 -- Assumes nothing.
-use Prim.Native.Nat.{◌-◌, ◌≤◌}
-use mathlib.Core.Path.{refl, sym, ap}
 use native.Mathlib.Omega.{arith}
-use lib.ListN.{length}
-use Rattle.whole.proofs.Admissions.{few_blocks}
 use Rattle.qp7.proofs.Gathering.{gathering_goes_on, gathering_stops}
-use Rattle.tally.proofs.Recordwise.{Tallying, tallying_begins, tallying_goes_on, told_why, tallying_ends}
-use borrow.Author.Rules.{rules}
-use Rattle.std.proofs.Common.{◌≡◌, ◌+◌, ◌^◌, ◌*◌, ◌<◌, ◌/◌, ◌%◌, [], ◌∷◌, ◌++◌}
+use Rattle.tally.proofs.Recordwise.{tallying_begins, tallying_goes_on, told_why, tallying_ends}
 use Rattle.tally.proofs.in_records.of_qp7.Goals as goal
 
 pub loop-block-init : goal.loop-block-init

@@ -1,12 +1,7 @@
 -- `tally::in_records::of_qp7` meets its contract: the walk stands for what the blocks so far gather, and the bytes are those of its records.
 -- Assumes nothing.
 use Prim.Native.Nat.{◌-◌, ◌≤◌}
-use mathlib.Core.Path.{refl, sym, ap}
-use native.Mathlib.Omega.{arith}
-use lib.ListN.{length}
-use Rattle.whole.proofs.Admissions.{few_blocks}
-use Rattle.qp7.proofs.Gathering.{gathering_goes_on, gathering_stops}
-use Rattle.tally.proofs.Recordwise.{Tallying, tallying_begins, tallying_goes_on, told_why, tallying_ends}
+use Rattle.tally.proofs.Recordwise.{Tallying}
 use Rattle.tally.proofs.in_records.of_qp7.Given as goal
 
 abbrev pub invariant-loop-block : goal.invariant-loop-block
