@@ -2,6 +2,7 @@
 // Rests on whole, which says whether the file is taken and what it announces, on packets, for where a read lies, on sp, which makes the read and
 // whose whole reading it agrees with, on refusals and blocks.
 #![tactic(auto)]
+
 ghost use Rattle.std.specs.Prelude.{◌≡◌, ◌≤◌, ◌^◌};
 ghost use Rattle.blocks.specs.Places.{Whole};
 ghost use Rattle.whole.specs.Admissions.{stream_in};

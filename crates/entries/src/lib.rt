@@ -1,6 +1,7 @@
 // What an index has of a DSS recording: an entry for each announcing block, its twelve bytes, and whether they stand in an index. Every public
 // function here is for the crates above. Rests on sp, for a block's run, on whole, blocks and tables.
 #![tactic(auto)]
+
 ghost use Rattle.std.specs.Prelude.{◌≡◌, ◌+◌, ◌%◌, ◌≤◌, ◌<◌, ◌^◌, length, take, drop};
 ghost use Rattle.blocks.specs.Places.{Whole};
 ghost use Rattle.blocks.specs.Headers.{announced_in};

@@ -2,6 +2,7 @@
 // Rests on index, which holds an index to its file, on entries, on whole, on packets, for where a read lies, on sp, which makes the read, on
 // refusals and blocks.
 #![tactic(auto)]
+
 ghost use Rattle.std.specs.Prelude.{◌≡◌, ◌+◌, ◌-◌, ◌≤◌, ◌<◌, ◌^◌, length};
 ghost use Rattle.blocks.specs.Places.{Whole};
 ghost use Rattle.refusals.specs.Said.{answers};

@@ -2,6 +2,7 @@
 // where it stands. Rests on packets, for a packet from bytes that lie together, on sp, for runs and where a packet is put, on blocks and
 // on tables. What is public here is for the crates above.
 #![tactic(auto)]
+
 ghost use Rattle.std.specs.Prelude.{◌≡◌, cond, ℕ, ◌+◌, ◌*◌, ◌≤◌, ◌<◌, ◌^◌, eqb, length, get_or};
 ghost use Rattle.tables.specs.Table.{table};
 ghost use Rattle.packets.specs.Packet.{read_size, IsPacket};

@@ -2,6 +2,7 @@
 // Rests on hold, for what is held and packets from it, on packets and sp, for reads and runs, on blocks and on tables. What is public here
 // is for the crates above.
 #![tactic(auto)]
+
 ghost use Rattle.std.specs.Prelude.{◌≡◌, false, List, ℕ, length};
 ghost use Rattle.hold.specs.Ready.{reading_in};
 ghost use Rattle.hold.specs.Inner.{PartWritten, Next, Added, Walking};

@@ -2,6 +2,7 @@
 // Rests on hold, for what is held, the blocks that wait and packets from either, on sp, for runs, on blocks and on tables. What is public
 // here is for the crates above.
 #![tactic(auto)]
+
 ghost use Rattle.std.specs.Prelude.{◌≡◌, true, false, cond, List, ℕ, ◌+◌, ◌*◌, ◌≤◌, ◌^◌, eqb, leb, length};
 ghost use Rattle.sp.specs.ReadLists.{dss_run};
 ghost use Rattle.hold.specs.Ready.{ends_at};

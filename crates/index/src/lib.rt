@@ -1,6 +1,7 @@
 // The index beside a DSS recording: built from its file, and read back with the file lent, which holds all of it to the recording.
 // Rests on entries, for what an index has of a recording, on whole, which says whether the file is taken, and on refusals.
 #![tactic(auto)]
+
 ghost use Rattle.std.specs.Prelude.{◌≡◌, ◌≤◌, ◌^◌, length};
 ghost use Rattle.refusals.specs.Said.{answers};
 ghost use Rattle.whole.specs.Admissions.{Sound};

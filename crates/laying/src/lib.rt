@@ -2,6 +2,7 @@
 // the header of the block that they begin in. Every function here is for the crates above. Rests on blocks, magic and tables, and for its
 // laws on detect and whole, which read what is laid.
 #![tactic(auto)]
+
 ghost use Rattle.std.specs.Prelude.{◌≡◌, ◌+◌, ◌*◌, ◌/◌, ◌≤◌, ◌<◌, ◌^◌, ◌||◌, length, get_or, eqb};
 ghost use Rattle.tables.specs.Lent.{Leaves};
 ghost use Rattle.laying.specs.Header.{is_header};

@@ -2,6 +2,7 @@
 // may be too small the blocks are walked twice, first to count and then to write, so that a refused call has written nothing.
 // Rests on whole, which says whether the file is taken, on frames, for where a block starts, on refusals, blocks and tables.
 #![tactic(auto)]
+
 ghost use Rattle.std.specs.Prelude.{◌≡◌, ℕ, ◌+◌, ◌*◌, ◌<◌, ◌≤◌, ◌^◌, cond, length, ltb};
 ghost use Rattle.tables.specs.Inner.{Puts};
 ghost use Rattle.blocks.specs.Headers.{Bytes};

@@ -2,6 +2,7 @@
 // to count and then to write, so that a refused call has written nothing.
 // Rests on whole, which says whether the file is taken, on frames, for where a block starts, on refusals, blocks and tables.
 #![tactic(auto)]
+
 ghost use Rattle.std.specs.Prelude.{◌≡◌, ◌+◌, ◌*◌, ◌<◌, ◌≤◌, ◌^◌, max, [], ◌∷◌, length};
 ghost use Rattle.tables.specs.Inner.{Puts};
 ghost use Rattle.refusals.specs.Said.{answers};

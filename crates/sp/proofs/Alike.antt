@@ -13,7 +13,7 @@ use Rattle.whole.specs.Admissions.{ds2_admission}
 use Rattle.whole.proofs.Admissions.{ds2_recording, ds2_admitted}
 use Rattle.whole.proofs.Alike.{after_first, ds2_alike}
 use Rattle.sp.specs.ReadLists.{ds2_runs}
-use Rattle.sp.specs.Readings.{Reading, reading_of, read_by, ds2_reading}
+use Rattle.sp.specs.Readings.{reading_of, read_by, ds2_reading}
 
 -- files that are alike from the audio start on have the same reading
 reading_alike : (a : ℕ) (f g : List ℕ) → AlikeFrom a f g → (n : ℕ)

@@ -1,6 +1,7 @@
 // Whole SP reading: a DSS file's packets, or a DS2 SP file's, into lent memory. The two differ only in their list of reads.
 // Rests on whole, which says whether the file is taken, on packets, which gives a packet for a read, on refusals, blocks and tables.
 #![tactic(auto)]
+
 ghost use Rattle.std.specs.Prelude.{◌≡◌, ◌+◌, ◌*◌, ◌/◌, ◌≤◌, ◌<◌, ◌^◌, min, cond, length, get_or, leb};
 ghost use Rattle.tables.specs.Lent.{Leaves};
 ghost use Rattle.blocks.specs.Places.{Whole, stream_at};

@@ -107,7 +107,9 @@ fn of_run(run: Run, long: usize, sourced: bool) -> Added
     of_cut(swap, count, left, sourced)
 }
 
-// For the rest of this crate. What a DSS recording hands out: a run for each block, which for a silent one has no packets.
+// For the rest of this crate. What a DSS recording hands out: a run for each block, which for a silent one has no packets. By itself its loop
+// keeps more in registers than inside the tally, one instruction in nine.
+#[inline(never)]
 pub fn of_dss(file: &[u8], recording: Recording) -> HandedOut
     requires { Sound file.now recording }
     ensures { result ≡ packets_out (reading_of file.now recording dss_runs) }

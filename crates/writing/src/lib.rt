@@ -2,6 +2,7 @@
 // Rests on laying, which lays out blocks, on packets, for where a read lies, on refusals, blocks and tables; and for what reading the file
 // gives, on sp.
 #![tactic(auto)]
+
 ghost use Rattle.std.specs.Prelude.{◌≡◌, ◌+◌, ◌*◌, ◌/◌, ◌≤◌, ◌<◌, ◌^◌, false, length, get_or};
 ghost use Rattle.packets.specs.Walk.{reach};
 ghost use Rattle.laying.specs.Inner.{count_at, Holds};

@@ -6,15 +6,7 @@ use Rattle.whole.specs.Admissions.{ds2_admission, admission_says}
 use Rattle.whole.proofs.Admissions.{ds2_admitted}
 use Rattle.sp.proofs.Outcome.{may_read, not_taken, taken}
 use Rattle.at_once.specs.Straight.{of_number, packet_reading}
-use borrow.Author.Rules.{rules}
-use Rattle.std.proofs.Common.{rules, ◌≡◌, ◌≤◌, ◌^◌, ℕ, ◌+◌, ◌-◌, ◌*◌, ◌<◌, length, ◌/◌, ◌%◌, Bool, true, false, nat_eq, nat_lt, List, [], ◌∷◌, ◌++◌, slice_index_or, slice_set, bit_and, bit_or, Fits, w8, w32, w64, Bor, MutBor}
-use Rattle.blocks.specs.Places.{Whole}
-use Rattle.whole.specs.Admissions.{stream_in}
-use Rattle.sp.specs.Outcome.{Demuxes}
-use Rattle.sp.specs.Written.{Written}
-use Rattle.sp.specs.Inner.{Readable}
-use Rattle.at_once.specs.Straight.{carried_to, straight, of_number, packet_reading}
-use Rattle.at_once.specs.Inner.{Ready}
+use Rattle.at_once.specs.Straight.{of_number, packet_reading}
 use Rattle.at_once.proofs.ds2_sp_packet.Goals as goal
 
 pub read-requires : goal.read-requires

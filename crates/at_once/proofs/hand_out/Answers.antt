@@ -1,18 +1,8 @@
 -- `at_once::hand_out` meets its contract: one read is made where the number says.
 -- Assumes nothing.
 use native.Mathlib.Omega.{arith}
-use Rattle.packets.proofs.Reaches.{reach_most}
 use Rattle.sp.proofs.ReadLists.{some_block}
 use Rattle.at_once.proofs.Outcome.{packet_written}
-use borrow.Author.Rules.{rules}
-use Rattle.std.proofs.Common.{rules, ◌≡◌, ◌≤◌, ◌^◌, ℕ, ◌+◌, ◌-◌, ◌*◌, ◌<◌, length, ◌/◌, ◌%◌, Bool, true, false, nat_eq, nat_lt, List, [], ◌∷◌, ◌++◌, slice_index_or, slice_set, bit_and, bit_or, Fits, w8, w32, w64, Bor, MutBor}
-use Rattle.blocks.specs.Places.{Whole}
-use Rattle.whole.specs.Admissions.{stream_in}
-use Rattle.sp.specs.Outcome.{Demuxes}
-use Rattle.sp.specs.Written.{Written}
-use Rattle.sp.specs.Inner.{Readable}
-use Rattle.at_once.specs.Straight.{carried_to, straight, of_number, packet_reading}
-use Rattle.at_once.specs.Inner.{Ready}
 use Rattle.at_once.proofs.hand_out.Goals as goal
 
 pub swap_flag-first-requires : goal.swap_flag-first-requires

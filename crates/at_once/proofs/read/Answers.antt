@@ -2,17 +2,7 @@
 -- Assumes nothing.
 use mathlib.Core.Path.{sym, ◌∙◌}
 use native.Mathlib.Omega.{arith}
-use borrow.Author.Tests.{not-true, not-false}
-use Rattle.at_once.proofs.Outcome.{beyond, packet_no_room, packet_with_room, is_ready}
-use borrow.Author.Rules.{rules}
-use Rattle.std.proofs.Common.{rules, ◌≡◌, ◌≤◌, ◌^◌, ℕ, ◌+◌, ◌-◌, ◌*◌, ◌<◌, length, ◌/◌, ◌%◌, Bool, true, false, nat_eq, nat_lt, List, [], ◌∷◌, ◌++◌, slice_index_or, slice_set, bit_and, bit_or, Fits, w8, w32, w64, Bor, MutBor}
-use Rattle.blocks.specs.Places.{Whole}
-use Rattle.whole.specs.Admissions.{stream_in}
-use Rattle.sp.specs.Outcome.{Demuxes}
-use Rattle.sp.specs.Written.{Written}
-use Rattle.sp.specs.Inner.{Readable}
-use Rattle.at_once.specs.Straight.{carried_to, straight, of_number, packet_reading}
-use Rattle.at_once.specs.Inner.{Ready}
+use Rattle.at_once.proofs.Outcome.{beyond, packet_no_room, packet_with_room}
 use Rattle.at_once.proofs.read.Goals as goal
 
 pub returns-then-total-number : goal.returns-then-total-number

@@ -1,9 +1,7 @@
 -- `entries::add_up` meets its contract: before each block so many entries and packets are counted.
 -- Assumes nothing.
 use Prim.Native.Nat.{◌-◌}
-use native.Mathlib.Omega.{arith}
-use Rattle.whole.proofs.Admissions.{few_blocks}
-use Rattle.entries.proofs.Blockwise.{Before, before_all, before_next, before_none}
+use Rattle.entries.proofs.Blockwise.{Before}
 use Rattle.entries.proofs.add_up.Given as goal
 
 abbrev pub invariant-loop-block : goal.invariant-loop-block

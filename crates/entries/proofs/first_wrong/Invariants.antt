@@ -1,12 +1,7 @@
 -- `entries::first_wrong` meets its contract: before each block the entries of those before it stand in the index.
 -- Assumes nothing.
 use Prim.Native.Nat.{◌-◌}
-use mathlib.Core.Path.{sym, ◌∙◌}
-use native.Mathlib.Omega.{arith}
-use borrow.Author.Tests.{not-true, not-false}
-use Rattle.whole.proofs.Admissions.{few_blocks}
-use Rattle.entries.proofs.Entries.{entry_fits}
-use Rattle.entries.proofs.Blockwise.{StandsUpto, stands_none, stands_silent, stands_next, stands_no_more, stands_all}
+use Rattle.entries.proofs.Blockwise.{StandsUpto}
 use Rattle.entries.proofs.first_wrong.Given as goal
 
 abbrev pub invariant-loop-block : goal.invariant-loop-block

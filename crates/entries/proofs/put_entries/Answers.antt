@@ -1,19 +1,6 @@
 -- `entries::put_entries` meets its contract: before each block the entries of those before it are laid.
 -- Assumes nothing.
-use Prim.Native.Nat.{◌-◌}
-use native.Mathlib.Omega.{arith}
-use Rattle.whole.proofs.Admissions.{few_blocks}
-use Rattle.entries.proofs.Blockwise.{LaidUpto, laid_none, laid_silent, laid_next, laid_room, laid_all}
-use borrow.Author.Rules.{rules}
-use Rattle.std.proofs.Common.{rules, ◌≡◌, ◌+◌, ◌%◌, ◌≤◌, ◌<◌, ◌^◌, length, take, drop, ℕ, ◌-◌, ◌*◌, ◌/◌, Bool, true, false, nat_eq, nat_lt, List, [], ◌∷◌, ◌++◌, slice_index_or, slice_set, bit_and, bit_or, w8, w32, w64, Bor, MutBor}
-use Rattle.blocks.specs.Places.{Whole}
-use Rattle.blocks.specs.Headers.{announced_in}
-use Rattle.whole.specs.Admissions.{Sound, announced_by}
-use Rattle.entries.specs.Words.{word32, word_at}
-use Rattle.entries.specs.Entries.{entry_of, entries_by}
-use Rattle.entries.specs.Index.{entry_bytes, entries_bytes}
-use Rattle.entries.specs.Held.{same, first_wrong}
-use Rattle.entries.specs.Inner.{Lays, entry_at, entry_place, Fits}
+use Rattle.entries.proofs.Blockwise.{laid_none, laid_silent, laid_next, laid_room}
 use Rattle.entries.proofs.put_entries.Goals as goal
 
 pub loop-block-init : goal.loop-block-init

@@ -1,9 +1,7 @@
 -- `entries::put_entries` meets its contract: before each block the entries of those before it are laid.
 -- Assumes nothing.
 use Prim.Native.Nat.{◌-◌}
-use native.Mathlib.Omega.{arith}
-use Rattle.whole.proofs.Admissions.{few_blocks}
-use Rattle.entries.proofs.Blockwise.{LaidUpto, laid_none, laid_silent, laid_next, laid_room, laid_all}
+use Rattle.entries.proofs.Blockwise.{LaidUpto}
 use Rattle.entries.proofs.put_entries.Given as goal
 
 abbrev pub invariant-loop-block : goal.invariant-loop-block

@@ -7,16 +7,8 @@ use borrow.Author.Tests.{eq-eqb, ne_eqb}
 use Rattle.tables.proofs.Cases.{by_equal}
 use Rattle.entries.specs.Words.{word_at}
 use Rattle.entries.proofs.Held.{stands_cut, other_word, all_words}
-use borrow.Author.Rules.{rules}
-use Rattle.std.proofs.Common.{rules, ◌≡◌, ◌+◌, ◌%◌, ◌≤◌, ◌<◌, ◌^◌, length, take, drop, ℕ, ◌-◌, ◌*◌, ◌/◌, Bool, true, false, nat_eq, nat_lt, List, [], ◌∷◌, ◌++◌, slice_index_or, slice_set, bit_and, bit_or, w8, w32, w64, Bor, MutBor}
-use Rattle.blocks.specs.Places.{Whole}
-use Rattle.blocks.specs.Headers.{announced_in}
-use Rattle.whole.specs.Admissions.{Sound, announced_by}
-use Rattle.entries.specs.Words.{word32, word_at}
-use Rattle.entries.specs.Entries.{entry_of, entries_by}
-use Rattle.entries.specs.Index.{entry_bytes, entries_bytes}
-use Rattle.entries.specs.Held.{same, first_wrong}
-use Rattle.entries.specs.Inner.{Lays, entry_at, entry_place, Fits}
+use Rattle.std.proofs.Common.{◌≡◌, ◌+◌}
+use Rattle.entries.specs.Words.{word_at}
 use Rattle.entries.proofs.stands.Goals as goal
 
 pub returns-then-index-at : goal.returns-then-index-at

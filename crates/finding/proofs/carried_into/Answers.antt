@@ -1,22 +1,20 @@
 -- `finding::carried_into` meets its contract: what is carried to the block is what is carried to each block that was looked back to.
 -- Assumes nothing.
-use Prim.Native.Nat.{◌+◌, ◌-◌, ◌≤◌}
-use mathlib.Core.Path.{◌≡◌, refl, sym, ap, ◌∙◌}
+use Prim.Native.Nat.{◌+◌, ◌-◌}
+use mathlib.Core.Path.{◌≡◌, sym, ap, ◌∙◌}
 use native.Mathlib.Omega.{arith}
 use Rattle.packets.proofs.Unswapped.{upto_most}
 use Rattle.finding.specs.Packet.{carried_into}
 use Rattle.finding.proofs.Carried.{into_none, into_last, into_kept, near_run}
-use borrow.Author.Rules.{rules}
-use Rattle.std.proofs.Common.{◌<◌, ◌^◌, ◌*◌, ◌/◌, ◌%◌, [], ◌∷◌, ◌++◌}
 use Rattle.finding.proofs.carried_into.Goals as goal
 
 pub carried_by-requires-clause-near : goal.carried_by-requires-clause-near
 carried_by-requires-clause-near c = let l = c.loop-before in
     let run = c.dss_run-run.result in (
-        near_run c.args.file.now c.args.recording (l.before - 1) run c.dss_run-run.ensures.0 (omega (arith, l.invariant.0, c.requires.1, c.requires.0.blocks_few)),
-        omega (arith, c.upto_unswapped-reads.ensures, upto_most run.swap run.count, c.dss_run-run.ensures.1),
-        c.if-reads-gt0.true,
-      )
+      near_run c.args.file.now c.args.recording (l.before - 1) run c.dss_run-run.ensures.0 (omega (arith, l.invariant.0, c.requires.1, c.requires.0.blocks_few)),
+      omega (arith, c.upto_unswapped-reads.ensures, upto_most run.swap run.count, c.dss_run-run.ensures.1),
+      c.if-reads-gt0.true,
+    )
 
 pub returns-then-reads-gt0 : goal.returns-then-reads-gt0
 returns-then-reads-gt0 c =

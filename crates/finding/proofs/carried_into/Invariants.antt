@@ -1,11 +1,8 @@
 -- `finding::carried_into` meets its contract: what is carried to the block is what is carried to each block that was looked back to.
 -- Assumes nothing.
-use Prim.Native.Nat.{◌+◌, ◌-◌, ◌≤◌}
-use mathlib.Core.Path.{◌≡◌, refl, sym, ap, ◌∙◌}
-use native.Mathlib.Omega.{arith}
-use Rattle.packets.proofs.Unswapped.{upto_most}
+use Prim.Native.Nat.{◌≤◌}
+use mathlib.Core.Path.{◌≡◌}
 use Rattle.finding.specs.Packet.{carried_into}
-use Rattle.finding.proofs.Carried.{into_none, into_last, into_kept, near_run}
 use Rattle.finding.proofs.carried_into.Given as goal
 
 abbrev pub invariant-loop-before : goal.invariant-loop-before

@@ -4,16 +4,14 @@ use mathlib.Core.Path.{◌∙◌}
 use native.Mathlib.Omega.{arith}
 use Rattle.packets.proofs.Unswapped.{upto_most}
 use Rattle.finding.proofs.Carried.{past_last, past_none, near_run}
-use borrow.Author.Rules.{rules}
-use Rattle.std.proofs.Common.{◌≡◌, ◌+◌, ◌-◌, ◌≤◌, ◌<◌, ◌^◌, ◌*◌, ◌/◌, ◌%◌, [], ◌∷◌, ◌++◌}
 use Rattle.finding.proofs.carried_to.Goals as goal
 
 pub carried_by-requires-clause-near : goal.carried_by-requires-clause-near
 carried_by-requires-clause-near c = let run = c.dss_run-run.result in (
-        near_run c.args.file.now c.args.recording c.args.block run c.dss_run-run.ensures.0 (omega (arith, c.requires.1, c.requires.0.blocks_few)),
-        omega (arith, c.upto_unswapped-reads.ensures, upto_most run.swap c.args.k, c.requires.2),
-        c.if-reads-gt0.true,
-      )
+  near_run c.args.file.now c.args.recording c.args.block run c.dss_run-run.ensures.0 (omega (arith, c.requires.1, c.requires.0.blocks_few)),
+  omega (arith, c.upto_unswapped-reads.ensures, upto_most run.swap c.args.k, c.requires.2),
+  c.if-reads-gt0.true,
+)
 
 pub returns-then-reads-gt0 : goal.returns-then-reads-gt0
 returns-then-reads-gt0 c =

@@ -2,12 +2,9 @@
 -- Assumes nothing.
 use mathlib.Core.Path.{sym, ◌∙◌}
 use native.Mathlib.Omega.{arith}
-use borrow.Author.Tests.{not-true, not-false}
 use Rattle.sp.proofs.Outcome.{no_room, with_room}
 use Rattle.finding.specs.Packet.{stands_by}
 use Rattle.finding.proofs.Carried.{alone_total, is_ready}
-use borrow.Author.Rules.{rules}
-use Rattle.std.proofs.Common.{◌≡◌, ◌+◌, ◌-◌, ◌≤◌, ◌<◌, ◌^◌, ◌*◌, ◌/◌, ◌%◌, [], ◌∷◌, ◌++◌}
 use Rattle.finding.proofs.deliver.Goals as goal
 
 pub returns-then-not-has_room : goal.returns-then-not-has_room

@@ -6,8 +6,6 @@ use Rattle.whole.specs.Admissions.{admission, admission_says}
 use Rattle.whole.proofs.Admissions.{sound}
 use Rattle.sp.proofs.Outcome.{not_taken, taken}
 use Rattle.finding.specs.Packet.{packet_beside, packet_found}
-use borrow.Author.Rules.{rules}
-use Rattle.std.proofs.Common.{◌≡◌, ◌+◌, ◌-◌, ◌≤◌, ◌<◌, ◌^◌, ◌*◌, ◌/◌, ◌%◌, [], ◌∷◌, ◌++◌}
 use Rattle.finding.proofs.dss_packet.Goals as goal
 
 pub read-requires : goal.read-requires

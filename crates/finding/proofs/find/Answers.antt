@@ -2,11 +2,8 @@
 -- Assumes nothing.
 use mathlib.Core.Path.{sym, ap, ◌∙◌}
 use native.Mathlib.Omega.{arith}
-use Rattle.blocks.specs.Headers.{Bytes}
 use Rattle.index.specs.Outcome.{read_says}
-use Rattle.finding.proofs.Searching.{not_searched, may_search, search_finds}
-use borrow.Author.Rules.{rules}
-use Rattle.std.proofs.Common.{◌≡◌, ◌+◌, ◌-◌, ◌≤◌, ◌<◌, ◌^◌, ◌*◌, ◌/◌, ◌%◌, [], ◌∷◌, ◌++◌}
+use Rattle.finding.proofs.Searching.{may_search, search_finds}
 use Rattle.finding.proofs.find.Goals as goal
 
 pub look_up-requires : goal.look_up-requires

@@ -5,8 +5,6 @@ use mathlib.Core.Bool.{true, false}
 use Rattle.whole.specs.Admissions.{admission_says}
 use Rattle.whole.proofs.Admissions.{sound}
 use Rattle.finding.proofs.Searching.{not_found, is_found}
-use borrow.Author.Rules.{rules}
-use Rattle.std.proofs.Common.{◌≡◌, ◌+◌, ◌-◌, ◌≤◌, ◌<◌, ◌^◌, ◌*◌, ◌/◌, ◌%◌, [], ◌∷◌, ◌++◌}
 use Rattle.finding.proofs.find_entry.Goals as goal
 
 pub find-requires : goal.find-requires

@@ -1,12 +1,8 @@
 -- `finding::hand_out` meets its contract: one read is made where the entry and the number say.
 -- Assumes nothing.
-use Prim.Native.Nat.{ℕ, ◌+◌, ◌-◌}
+use Prim.Native.Nat.{ℕ, ◌+◌}
 use mathlib.Core.Path.{refl, ap}
-use native.Mathlib.Omega.{arith}
-use Rattle.packets.proofs.Reaches.{reach_most}
 use Rattle.finding.proofs.Carried.{alone_written, worked_out}
-use borrow.Author.Rules.{rules}
-use Rattle.std.proofs.Common.{◌≡◌, ◌≤◌, ◌<◌, ◌^◌, ◌*◌, ◌/◌, ◌%◌, [], ◌∷◌, ◌++◌}
 use Rattle.finding.proofs.hand_out.Goals as goal
 
 pub returns : goal.returns

@@ -2,12 +2,10 @@
 -- Assumes nothing.
 use mathlib.Core.Path.{sym, ap, ◌∙◌}
 use Rattle.refusals.specs.Said.{answers}
-use Rattle.sp.proofs.Outcome.{may_read, not_taken, taken}
+use Rattle.sp.proofs.Outcome.{may_read, not_taken}
 use Rattle.finding.specs.Finding.{found_beside, found_says}
 use Rattle.finding.specs.Packet.{by_entry}
 use Rattle.finding.proofs.Searching.{found_has}
-use borrow.Author.Rules.{rules}
-use Rattle.std.proofs.Common.{◌≡◌, ◌+◌, ◌-◌, ◌≤◌, ◌<◌, ◌^◌, ◌*◌, ◌/◌, ◌%◌, [], ◌∷◌, ◌++◌}
 use Rattle.finding.proofs.read.Goals as goal
 
 pub deliver-requires : goal.deliver-requires

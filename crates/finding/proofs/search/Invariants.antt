@@ -1,8 +1,7 @@
 -- `finding::search` meets its contract: the numbers cross the packet's between low and high, which come together.
 -- Assumes nothing.
-use Prim.Native.Nat.{◌+◌, ◌-◌, ◌/◌}
-use native.Mathlib.Omega.{arith}
-use Rattle.finding.proofs.Halving.{Between, between_all, between_low, between_high, between_none}
+use Prim.Native.Nat.{◌-◌}
+use Rattle.finding.proofs.Halving.{Between}
 use Rattle.finding.proofs.search.Given as goal
 
 abbrev pub invariant-loop-high : goal.invariant-loop-high

@@ -3,13 +3,7 @@
 use Rattle.packets.proofs.Gathered.{gathered}
 use Rattle.hold.proofs.Windows.{hold_agrees, window_agrees}
 use borrow.Author.Rules.{rules}
-use Rattle.std.proofs.Common.{rules, ◌≡◌, cond, ℕ, ◌+◌, ◌*◌, ◌≤◌, ◌<◌, ◌^◌, eqb, length, get_or, ◌-◌, ◌/◌, ◌%◌, Bool, true, false, nat_lt, List, [], ◌∷◌, ◌++◌, slice_set, bit_and, bit_or, Fits, w8, w32, w64, Bor, MutBor}
-use Rattle.tables.specs.Table.{table}
-use Rattle.packets.specs.Packet.{read_size, IsPacket}
-use Rattle.sp.specs.Runs.{run_begin}
-use Rattle.sp.specs.Inner.{RunWritten}
-use Rattle.hold.specs.Ready.{ends_at}
-use Rattle.hold.specs.Inner.{Holds, Bears}
+use Rattle.std.proofs.Common.{rules}
 use Rattle.hold.proofs.held_packet.Goals as goal
 
 pub returns-then-at-le-LAST_INSIDE : goal.returns-then-at-le-LAST_INSIDE

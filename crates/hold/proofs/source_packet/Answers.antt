@@ -6,13 +6,7 @@ use Rattle.packets.proofs.Packets.{count_full}
 use Rattle.packets.proofs.Gathered.{gathered}
 use Rattle.hold.proofs.Through.{bears_agree}
 use borrow.Author.Rules.{rules}
-use Rattle.std.proofs.Common.{rules, ◌≡◌, cond, ℕ, ◌+◌, ◌*◌, ◌≤◌, ◌<◌, ◌^◌, eqb, length, get_or, ◌-◌, ◌/◌, ◌%◌, Bool, true, false, nat_lt, List, [], ◌∷◌, ◌++◌, slice_set, bit_and, bit_or, Fits, w8, w32, w64, Bor, MutBor}
-use Rattle.tables.specs.Table.{table}
-use Rattle.packets.specs.Packet.{read_size, IsPacket}
-use Rattle.sp.specs.Runs.{run_begin}
-use Rattle.sp.specs.Inner.{RunWritten}
-use Rattle.hold.specs.Ready.{ends_at}
-use Rattle.hold.specs.Inner.{Holds, Bears}
+use Rattle.std.proofs.Common.{rules, ◌+◌}
 use Rattle.hold.proofs.source_packet.Goals as goal
 
 pub returns : goal.returns

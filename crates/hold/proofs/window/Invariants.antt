@@ -1,11 +1,9 @@
 -- `hold::window` meets its contract: the bytes so far are copied, as far as the hold goes.
 -- Assumes nothing.
 use Prim.Native.Nat.{ℕ, ◌+◌, ◌-◌, ◌≤◌, ◌<◌}
-use mathlib.Core.Path.{◌≡◌, refl}
-use lib.ListN.{length, get_or, get_or-replicate}
+use mathlib.Core.Path.{◌≡◌}
+use lib.ListN.{length, get_or}
 use Rattle.tables.specs.Lent.{Leaves}
-use Rattle.tables.proofs.Lent.{leaves_none, leaves_next, leaves_to}
-use Rattle.hold.proofs.Windows.{window_is}
 use Rattle.hold.proofs.window.Given as goal
 
 abbrev pub invariant-loop-k : goal.invariant-loop-k

@@ -1,9 +1,8 @@
 -- `hold::write_held` meets its contract: as a run is written from a file, for any stream whose bytes the hold has.
 -- Assumes nothing.
 use Prim.Native.Nat.{◌-◌}
-use native.Mathlib.Omega.{arith}
 use Rattle.hold.specs.Inner.{Holds}
-use Rattle.hold.proofs.Handed.{Handing, handing_begins, handing_goes_on, handing_ends}
+use Rattle.hold.proofs.Handed.{Handing}
 use Rattle.hold.proofs.write_held.Given as goal
 
 abbrev pub invariant-loop-n : goal.invariant-loop-n

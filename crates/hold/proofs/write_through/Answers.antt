@@ -1,18 +1,10 @@
 -- `hold::write_through` meets its contract: as a run is written from the hold, each read lying in the payload.
 -- Assumes nothing.
-use Prim.Native.Nat.{◌+◌, ◌-◌}
 use native.Mathlib.Omega.{arith}
-use Rattle.hold.specs.Inner.{Bears}
-use Rattle.hold.proofs.Handed.{Handing, handing_begins, handing_goes_on, handing_ends}
+use Rattle.hold.proofs.Handed.{handing_begins, handing_goes_on, handing_ends}
 use Rattle.hold.proofs.Through.{read_inside}
 use borrow.Author.Rules.{rules}
-use Rattle.std.proofs.Common.{rules, ◌≡◌, cond, ℕ, ◌+◌, ◌*◌, ◌≤◌, ◌<◌, ◌^◌, eqb, length, get_or, ◌-◌, ◌/◌, ◌%◌, Bool, true, false, nat_lt, List, [], ◌∷◌, ◌++◌, slice_set, bit_and, bit_or, Fits, w8, w32, w64, Bor, MutBor}
-use Rattle.tables.specs.Table.{table}
-use Rattle.packets.specs.Packet.{read_size, IsPacket}
-use Rattle.sp.specs.Runs.{run_begin}
-use Rattle.sp.specs.Inner.{RunWritten}
-use Rattle.hold.specs.Ready.{ends_at}
-use Rattle.hold.specs.Inner.{Holds, Bears}
+use Rattle.std.proofs.Common.{rules}
 use Rattle.hold.proofs.write_through.Goals as goal
 
 pub loop-n-init : goal.loop-n-init

@@ -1,10 +1,8 @@
 -- `hold::write_through` meets its contract: as a run is written from the hold, each read lying in the payload.
 -- Assumes nothing.
 use Prim.Native.Nat.{◌+◌, ◌-◌}
-use native.Mathlib.Omega.{arith}
 use Rattle.hold.specs.Inner.{Bears}
-use Rattle.hold.proofs.Handed.{Handing, handing_begins, handing_goes_on, handing_ends}
-use Rattle.hold.proofs.Through.{read_inside}
+use Rattle.hold.proofs.Handed.{Handing}
 use Rattle.hold.proofs.write_through.Given as goal
 
 abbrev pub invariant-loop-n : goal.invariant-loop-n

@@ -10,10 +10,8 @@ use Rattle.blocks.specs.Places.{stream_at}
 use Rattle.packets.specs.Walk.{reach}
 use Rattle.hold.specs.Inner.{Holds, Next}
 use Rattle.blocks.proofs.Headers.{announced_most}
-use Rattle.hold.proofs.Adding.{numbers, begun, block_fits_lem, holds_now}
+use Rattle.hold.proofs.Adding.{numbers, begun, holds_now}
 use Rattle.hold_ds2.proofs.Ds2Block.{Counted, not_back, walking, walked}
-use borrow.Author.Rules.{rules}
-use Rattle.std.proofs.Common.{◌-◌, ◌<◌, ◌/◌, ◌%◌, [], ◌∷◌, ◌++◌}
 use Rattle.hold_ds2.proofs.add_ds2.Goals as goal
 use Rattle.hold_ds2.proofs.add_ds2.Goals.{Start, After-append, After-lesser-ready}
 
@@ -66,8 +64,7 @@ overflow_sub-next c = (goes (goal.at.overflow_sub-next c).After-lesser-ready _ c
 
 pub returns : goal.returns
 returns c =
-    let at = goal.at.returns c in
-    (
+    let at = goal.at.returns c in (
       c.drop_front.ensures.long ∙ (c.append.ensures.long ∙ c.requires.long),
       (λ w g.
           walked g (counted at.After-lesser-ready) _ _ _ _ _ _ _ _ c.reach-next.ensures (holds at.After-append w g) c.drop_front.ensures

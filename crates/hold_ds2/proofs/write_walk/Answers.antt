@@ -6,7 +6,6 @@ use Rattle.sp.specs.declared.Run.{Run}
 use Rattle.packets.proofs.Reaches.{reach_most}
 use Rattle.hold_ds2.proofs.Walks.{walk_near, walk_begun, walk_written}
 use borrow.Author.Rules.{rules}
-use Rattle.std.proofs.Common.{◌≡◌, ◌+◌, ◌-◌, ◌*◌, ◌<◌, ◌≤◌, ◌/◌, ◌%◌, [], ◌∷◌, ◌++◌}
 use Rattle.hold_ds2.proofs.write_walk.Goals as goal
 
 pub part_of-part-requires : goal.part_of-part-requires

@@ -1,8 +1,5 @@
 -- `hold_dss::add_dss` meets its contract: either way the block is added.
 -- Assumes nothing.
-use Rattle.hold_dss.proofs.Passing.{passes_says, block_is_run}
-use borrow.Author.Rules.{rules}
-use Rattle.std.proofs.Common.{◌≡◌, ◌+◌, ◌*◌, ◌≤◌, ◌^◌, ◌-◌, ◌<◌, ◌/◌, ◌%◌, [], ◌∷◌, ◌++◌}
 use Rattle.hold_dss.proofs.add_dss.Goals as goal
 
 pub returns-then-passes : goal.returns-then-passes

@@ -2,8 +2,6 @@
 -- Assumes nothing.
 use native.Mathlib.Omega.{arith}
 use Rattle.hold_dss.proofs.Passing.{pass_asked, pass_sums, passed}
-use borrow.Author.Rules.{rules}
-use Rattle.std.proofs.Common.{◌≡◌, ◌+◌, ◌*◌, ◌≤◌, ◌^◌, ◌-◌, ◌<◌, ◌/◌, ◌%◌, [], ◌∷◌, ◌++◌}
 use Rattle.hold_dss.proofs.pass_dss.Goals as goal
 
 pub write_through-carry-requires-clause-inside : goal.write_through-carry-requires-clause-inside

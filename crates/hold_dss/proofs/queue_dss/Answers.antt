@@ -11,8 +11,6 @@ use Rattle.hold.proofs.Ready.{ready_within}
 use Rattle.blocks.proofs.Headers.{announced_most}
 use Rattle.hold.proofs.Adding.{numbers}
 use Rattle.hold_dss.proofs.DssBlock.{few, dss_holds, ready_then, queued, left}
-use borrow.Author.Rules.{rules}
-use Rattle.std.proofs.Common.{◌≤◌, ◌^◌, ◌-◌, ◌<◌, ◌/◌, ◌%◌, [], ◌∷◌, ◌++◌}
 use Rattle.hold_dss.proofs.queue_dss.Goals as goal
 use Rattle.hold_dss.proofs.queue_dss.Goals.{After-append, After-enter}
 
@@ -71,8 +69,7 @@ overflow_add-ready c =
 
 pub returns : goal.returns
 returns c =
-    let at = goal.at.returns c in
-    (
+    let at = goal.at.returns c in (
       c.drop_front.ensures.long ∙ hold_long at.After-append,
       c.drop_front-2.ensures.long ∙ waiting_long at.After-enter,
       (λ g.

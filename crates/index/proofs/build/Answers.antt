@@ -2,8 +2,6 @@
 -- Assumes nothing.
 use Rattle.entries.specs.Entries.{contents_in}
 use Rattle.index.proofs.Building.{no_room, with_room}
-use borrow.Author.Rules.{rules}
-use Rattle.std.proofs.Common.{◌≡◌, ◌≤◌, ◌^◌, ◌+◌, ◌-◌, ◌*◌, ◌<◌, ◌/◌, ◌%◌, [], ◌∷◌, ◌++◌}
 use Rattle.index.proofs.build.Goals as goal
 
 pub returns-then-out-bytes : goal.returns-then-out-bytes

@@ -5,8 +5,6 @@ use mathlib.Core.Bool.{true, false}
 use Rattle.whole.specs.Admissions.{admission_says}
 use Rattle.whole.proofs.Admissions.{sound}
 use Rattle.index.proofs.Building.{not_taken, taken}
-use borrow.Author.Rules.{rules}
-use Rattle.std.proofs.Common.{◌≡◌, ◌≤◌, ◌^◌, ◌+◌, ◌-◌, ◌*◌, ◌<◌, ◌/◌, ◌%◌, [], ◌∷◌, ◌++◌}
 use Rattle.index.proofs.build_index.Goals as goal
 
 pub build-requires : goal.build-requires

@@ -1,15 +1,10 @@
 -- `index::hold` meets its contract: the tests in their order, and what each refuses by.
 -- Assumes nothing.
-use mathlib.Core.Path.{◌≡◌, refl, sym, ◌∙◌}
-use mathlib.Core.Bool.{true}
+use mathlib.Core.Path.{sym, ◌∙◌}
 use native.Mathlib.Omega.{arith}
-use borrow.Author.Tests.{not-true, not-false}
 use Rattle.entries.specs.Entries.{contents_in}
-use Rattle.index.specs.Reading.{framed}
 use Rattle.index.proofs.Framed.{framed_says}
-use Rattle.index.proofs.Reading.{by_totals, not_framed, other_version, entry_wrong, too_long, accepted}
-use borrow.Author.Rules.{rules}
-use Rattle.std.proofs.Common.{◌≤◌, ◌^◌, ◌+◌, ◌-◌, ◌*◌, ◌<◌, ◌/◌, ◌%◌, [], ◌∷◌, ◌++◌}
+use Rattle.index.proofs.Reading.{by_totals, entry_wrong, too_long, accepted}
 use Rattle.index.proofs.hold.Goals as goal
 
 pub bounds-index-4 : goal.bounds-index-4

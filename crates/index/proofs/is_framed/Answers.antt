@@ -1,8 +1,6 @@
 -- `index::is_framed` meets its contract: test by test.
 -- Assumes nothing.
 use Rattle.index.proofs.Framed.{framed_cut, framed_empty, framed_so}
-use borrow.Author.Rules.{rules}
-use Rattle.std.proofs.Common.{◌≡◌, ◌≤◌, ◌^◌, ◌+◌, ◌-◌, ◌*◌, ◌<◌, ◌/◌, ◌%◌, [], ◌∷◌, ◌++◌}
 use Rattle.index.proofs.is_framed.Goals as goal
 
 pub returns-then-index-lt4 : goal.returns-then-index-lt4

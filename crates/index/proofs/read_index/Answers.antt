@@ -5,8 +5,6 @@ use mathlib.Core.Bool.{true, false}
 use Rattle.whole.specs.Admissions.{admission_says}
 use Rattle.whole.proofs.Admissions.{sound}
 use Rattle.index.proofs.Reading.{not_read, is_read}
-use borrow.Author.Rules.{rules}
-use Rattle.std.proofs.Common.{◌≡◌, ◌≤◌, ◌^◌, ◌+◌, ◌-◌, ◌*◌, ◌<◌, ◌/◌, ◌%◌, [], ◌∷◌, ◌++◌}
 use Rattle.index.proofs.read_index.Goals as goal
 
 pub hold-requires : goal.hold-requires

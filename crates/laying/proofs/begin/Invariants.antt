@@ -2,8 +2,7 @@
 -- Assumes nothing.
 use Prim.Native.Nat.{◌*◌, ◌-◌, ◌≤◌}
 use Rattle.tables.specs.Lent.{Leaves}
-use Rattle.tables.proofs.Lent.{leaves_none, leaves_to}
-use Rattle.laying.proofs.Steps.{silent_at, silent_more, silent_all}
+use Rattle.laying.proofs.Steps.{silent_at}
 use Rattle.laying.proofs.begin.Given as goal
 
 abbrev pub invariant-loop-block : goal.invariant-loop-block

@@ -2,15 +2,10 @@
 -- Assumes nothing.
 use mathlib.Core.Path.{sym, ◌∙◌}
 use mathlib.Core.Bool.{and-false}
-use borrow.Author.Tests.{eq-eqb, ne_eqb, not-true, not-false}
+use borrow.Author.Tests.{eq-eqb, ne_eqb}
 use Rattle.tables.proofs.Tests.{both, last_of_all}
 use Rattle.laying.specs.Header.{is_header}
-use borrow.Author.Rules.{rules}
-use Rattle.std.proofs.Common.{rules, ◌≡◌, ◌+◌, ◌*◌, ◌/◌, ◌≤◌, ◌<◌, ◌^◌, ◌||◌, length, get_or, eqb, ℕ, ◌-◌, ◌%◌, Bool, true, false, nat_lt, List, [], ◌∷◌, ◌++◌, slice_set, bit_and, bit_or, Fits, w8, w32, w64, Bor, MutBor}
-use Rattle.tables.specs.Lent.{Leaves}
 use Rattle.laying.specs.Header.{is_header}
-use Rattle.laying.specs.Laid.{flag_byte, place_byte, block_byte, file_byte}
-use Rattle.laying.specs.Inner.{no_frames, Puts, head_at, count_at, Counts}
 use Rattle.laying.proofs.is_header.Goals as goal
 
 pub returns-then-header-ne-HEADER : goal.returns-then-header-ne-HEADER

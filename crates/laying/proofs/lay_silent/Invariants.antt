@@ -1,11 +1,7 @@
 -- `laying::lay_silent` meets its contract: zeros so far, then four stores.
 -- Assumes nothing.
 use Prim.Native.Nat.{◌-◌, ◌≤◌}
-use mathlib.Core.Path.{refl}
-use lib.ListN.{length-set}
 use Rattle.tables.specs.Lent.{Leaves}
-use Rattle.tables.proofs.Lent.{leaves_none, leaves_more, leaves_to}
-use Rattle.laying.proofs.Steps.{silent_stores}
 use Rattle.laying.proofs.lay_silent.Given as goal
 
 abbrev pub invariant-loop-k : goal.invariant-loop-k

@@ -1,17 +1,7 @@
 -- `qp::read` meets its contract: the segments are counted, and all are written or none.
 -- Assumes nothing.
-use native.Mathlib.Omega.{arith}
 use mathlib.Core.Path.{refl}
 use Rattle.qp.proofs.Outcome.{no_room, with_room}
-use borrow.Author.Rules.{rules}
-use Rattle.std.proofs.Common.{rules, ◌≡◌, ℕ, ◌+◌, ◌*◌, ◌<◌, ◌≤◌, ◌^◌, cond, length, ltb, ◌-◌, ◌/◌, ◌%◌, Bool, true, false, nat_eq, List, [], ◌∷◌, ◌++◌, slice_index_or, slice_set, bit_and, bit_or, Fits, w8, w32, w64, Bor, MutBor}
-use Rattle.tables.specs.Inner.{Puts}
-use Rattle.blocks.specs.Headers.{Bytes}
-use Rattle.refusals.specs.Said.{answers}
-use Rattle.whole.specs.Admissions.{Sound}
-use Rattle.qp.specs.Segments.{Gathered, counted, segments_from, reading_of, qp_reading}
-use Rattle.qp.specs.Outcome.{width, entry_of, Demuxes}
-use Rattle.qp.specs.Inner.{numbers_of, Near, Holds, Closes, Moves}
 use Rattle.qp.proofs.read.Goals as goal
 
 pub returns-then-room-needed : goal.returns-then-room-needed

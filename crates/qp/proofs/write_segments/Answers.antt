@@ -1,20 +1,11 @@
 -- `qp::write_segments` meets its contract: after b blocks the table holds what they have closed, and the end closes the last.
 -- Assumes nothing.
-use Prim.Native.Nat.{◌-◌, ◌*◌}
+use Prim.Native.Nat.{◌*◌}
 use native.Mathlib.Omega.{arith}
 use Rattle.whole.proofs.Admissions.{few_blocks}
 use Rattle.qp.specs.Segments.{moved, gathered_to}
-use Rattle.qp.proofs.Gathers.{near_within}
-use Rattle.qp.proofs.Blockwise.{Blockwise, blocks_begin, blocks_go_on, blocks_end}
-use borrow.Author.Rules.{rules}
-use Rattle.std.proofs.Common.{rules, ◌≡◌, ℕ, ◌+◌, ◌*◌, ◌<◌, ◌≤◌, ◌^◌, cond, length, ltb, ◌-◌, ◌/◌, ◌%◌, Bool, true, false, nat_eq, List, [], ◌∷◌, ◌++◌, slice_index_or, slice_set, bit_and, bit_or, Fits, w8, w32, w64, Bor, MutBor}
-use Rattle.tables.specs.Inner.{Puts}
-use Rattle.blocks.specs.Headers.{Bytes}
-use Rattle.refusals.specs.Said.{answers}
-use Rattle.whole.specs.Admissions.{Sound}
-use Rattle.qp.specs.Segments.{Gathered, counted, segments_from, reading_of, qp_reading}
-use Rattle.qp.specs.Outcome.{width, entry_of, Demuxes}
-use Rattle.qp.specs.Inner.{numbers_of, Near, Holds, Closes, Moves}
+use Rattle.qp.proofs.Blockwise.{blocks_begin, blocks_go_on}
+use Rattle.std.proofs.Common.{◌*◌}
 use Rattle.qp.proofs.write_segments.Goals as goal
 
 pub loop-block-init : goal.loop-block-init

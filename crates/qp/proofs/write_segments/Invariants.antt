@@ -1,11 +1,7 @@
 -- `qp::write_segments` meets its contract: after b blocks the table holds what they have closed, and the end closes the last.
 -- Assumes nothing.
-use Prim.Native.Nat.{◌-◌, ◌*◌}
-use native.Mathlib.Omega.{arith}
-use Rattle.whole.proofs.Admissions.{few_blocks}
-use Rattle.qp.specs.Segments.{moved, gathered_to}
-use Rattle.qp.proofs.Gathers.{near_within}
-use Rattle.qp.proofs.Blockwise.{Blockwise, blocks_begin, blocks_go_on, blocks_end}
+use Prim.Native.Nat.{◌-◌}
+use Rattle.qp.proofs.Blockwise.{Blockwise}
 use Rattle.qp.proofs.write_segments.Given as goal
 
 abbrev pub invariant-loop-block : goal.invariant-loop-block

@@ -1,27 +1,16 @@
 -- `qp7::read_records` meets its contract: what is left computes the rest.
 -- Assumes nothing.
-use Prim.Native.Nat.{◌+◌, ◌*◌, ◌-◌, ◌≤◌}
+use Prim.Native.Nat.{◌+◌}
 use mathlib.Core.Path.{◌≡◌, refl, sym, ap}
 use native.Mathlib.Omega.{arith}
-use lib.ListN.{length}
 use Rattle.tables.proofs.Tests.{told}
-use Rattle.blocks.specs.Places.{stream_at}
-use Rattle.refusals.proofs.Said.{not_both}
 use Rattle.qp7.specs.declared.Walk.{Walk}
-use Rattle.qp7.specs.Inner.{numbers_of}
 use Rattle.qp7.specs.Records.{record_says}
-use Rattle.qp7.specs.Walk.{Gathered}
 use Rattle.qp7.proofs.Records.{record_found, why_is}
-use Rattle.qp7.proofs.Reading.{Came, reading_begins, reading_goes_on, reading_stops, reading_ends, near_after}
+use Rattle.qp7.proofs.Reading.{reading_goes_on, reading_stops, reading_ends}
 use borrow.Author.Rules.{rules}
-use Rattle.std.proofs.Common.{rules, ◌≡◌, ◌+◌, ◌*◌, ◌<◌, ◌≤◌, ◌^◌, max, [], ◌∷◌, length, ℕ, ◌-◌, ◌/◌, ◌%◌, Bool, true, false, nat_eq, nat_lt, List, ◌++◌, slice_index_or, slice_set, bit_and, bit_or, Fits, w8, w32, w64, Bor, MutBor}
-use Rattle.tables.specs.Inner.{Puts}
-use Rattle.refusals.specs.Said.{answers}
-use Rattle.whole.specs.Admissions.{Sound, stream_in}
-use Rattle.qp7.specs.Records.{record_size, record_at, record_says}
-use Rattle.qp7.specs.Inner.{numbers_of, numbers_at, walked_says, Near, ReadsOn, Closes, GoesOn}
-use Rattle.qp7.specs.Walk.{Gathered, nothing, with_block, gathered_from, qp7_reading}
-use Rattle.qp7.specs.Outcome.{width, entry_of, Demuxes}
+use Rattle.std.proofs.Common.{rules, ◌≡◌, ◌+◌}
+use Rattle.qp7.specs.Records.{record_says}
 use Rattle.qp7.proofs.read_records.Goals as goal
 
 pub returns-in_default-clause-on : goal.returns-in_default-clause-on
@@ -47,5 +36,5 @@ pub returns-clause-on : goal.returns-clause-on
 returns-clause-on c = let l = c.loop-k in
     let a = c.args in
     let all : l.k ≡ a.count = omega arith in (λ g e.
-          reading_ends _ _ _ _ g _ _ _ l.k (l.invariant.3 g e) _ all refl (ap (λ (w : Walk). w.records + a.count) e)
-          (ap (λ (w : Walk). w.segments) e) (ap (λ (w : Walk). w.first) e))
+    reading_ends _ _ _ _ g _ _ _ l.k (l.invariant.3 g e) _ all refl (ap (λ (w : Walk). w.records + a.count) e)
+    (ap (λ (w : Walk). w.segments) e) (ap (λ (w : Walk). w.first) e))

@@ -1,18 +1,12 @@
 -- `qp7::read_records` meets its contract: what is left computes the rest.
 -- Assumes nothing.
-use Prim.Native.Nat.{◌+◌, ◌*◌, ◌-◌, ◌≤◌}
-use mathlib.Core.Path.{◌≡◌, refl, sym, ap}
-use native.Mathlib.Omega.{arith}
+use Prim.Native.Nat.{◌*◌, ◌-◌, ◌≤◌}
+use mathlib.Core.Path.{◌≡◌}
 use lib.ListN.{length}
-use Rattle.tables.proofs.Tests.{told}
 use Rattle.blocks.specs.Places.{stream_at}
-use Rattle.refusals.proofs.Said.{not_both}
-use Rattle.qp7.specs.declared.Walk.{Walk}
 use Rattle.qp7.specs.Inner.{numbers_of}
-use Rattle.qp7.specs.Records.{record_says}
 use Rattle.qp7.specs.Walk.{Gathered}
-use Rattle.qp7.proofs.Records.{record_found, why_is}
-use Rattle.qp7.proofs.Reading.{Came, reading_begins, reading_goes_on, reading_stops, reading_ends, near_after}
+use Rattle.qp7.proofs.Reading.{Came}
 use Rattle.qp7.proofs.read_records.Given as goal
 
 abbrev pub invariant-loop-k : goal.invariant-loop-k

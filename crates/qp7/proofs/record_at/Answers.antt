@@ -6,15 +6,8 @@ use native.Mathlib.Omega.{arith}
 use Rattle.blocks.proofs.Places.{stream_in}
 use Rattle.qp7.specs.Records.{record_size}
 use Rattle.qp7.proofs.Records.{no_selector, runs_past, record_there}
-use borrow.Author.Rules.{rules}
-use Rattle.std.proofs.Common.{rules, ◌≡◌, ◌+◌, ◌*◌, ◌<◌, ◌≤◌, ◌^◌, max, [], ◌∷◌, length, ℕ, ◌-◌, ◌/◌, ◌%◌, Bool, true, false, nat_eq, nat_lt, List, ◌++◌, slice_index_or, slice_set, bit_and, bit_or, Fits, w8, w32, w64, Bor, MutBor}
-use Rattle.tables.specs.Inner.{Puts}
-use Rattle.refusals.specs.Said.{answers}
-use Rattle.whole.specs.Admissions.{Sound}
-use Rattle.qp7.specs.Records.{record_size, record_at, record_says}
-use Rattle.qp7.specs.Inner.{numbers_of, numbers_at, walked_says, Near, ReadsOn, Closes, GoesOn}
-use Rattle.qp7.specs.Walk.{Gathered, nothing, with_block, gathered_from, qp7_reading}
-use Rattle.qp7.specs.Outcome.{width, entry_of, Demuxes}
+use Rattle.std.proofs.Common.{◌+◌}
+use Rattle.qp7.specs.Records.{record_size}
 use Rattle.qp7.proofs.record_at.Goals as goal
 
 pub returns-then-left-lt2 : goal.returns-then-left-lt2

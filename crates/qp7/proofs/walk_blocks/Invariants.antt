@@ -1,10 +1,9 @@
 -- `qp7::walk_blocks` meets its contract: the walk stands for what the blocks so far gather.
 -- Assumes nothing.
 use Prim.Native.Nat.{◌-◌, ◌≤◌}
-use mathlib.Core.Path.{◌≡◌, refl}
-use native.Mathlib.Omega.{arith}
+use mathlib.Core.Path.{◌≡◌}
 use lib.ListN.{length}
-use Rattle.qp7.proofs.Gathering.{Gathers, gathering_begins, gathering_goes_on, gathering_stops, gathering_ends}
+use Rattle.qp7.proofs.Gathering.{Gathers}
 use Rattle.qp7.proofs.walk_blocks.Given as goal
 
 abbrev pub invariant-loop-block : goal.invariant-loop-block

@@ -1,10 +1,8 @@
 -- `sp::put` meets its contract: the bytes so far are copied, then the count stands in its entry.
 -- Assumes nothing.
 use Prim.Native.Nat.{◌-◌, ◌≤◌}
-use mathlib.Core.Path.{refl}
 use lib.ListN.{get_or}
 use Rattle.tables.specs.Lent.{Leaves}
-use Rattle.tables.proofs.Lent.{leaves_none, leaves_more, leaves_to, leaves_one}
 use Rattle.sp.proofs.put.Given as goal
 
 abbrev pub invariant-loop-i : goal.invariant-loop-i

@@ -1,21 +1,7 @@
 -- `sp::write_dss` meets its contract: after b blocks their runs are written, and what they carry goes on.
 -- Assumes nothing.
-use Prim.Native.Nat.{◌-◌, ◌*◌}
 use native.Mathlib.Omega.{arith}
-use Rattle.blocks.specs.Places.{stream_at}
-use Rattle.sp.proofs.Blockwise.{Blockwise, blocks_begin, blocks_go_on, block_fits_lem, block_near, blocks_end}
-use borrow.Author.Rules.{rules}
-use Rattle.std.proofs.Common.{rules, ◌≡◌, ◌+◌, ◌*◌, ◌/◌, ◌≤◌, ◌<◌, ◌^◌, min, cond, length, get_or, leb, ℕ, ◌-◌, ◌%◌, Bool, true, false, nat_eq, nat_lt, List, [], ◌∷◌, ◌++◌, slice_set, bit_and, bit_or, Fits, w8, w32, w64, Bor, MutBor}
-use Rattle.tables.specs.Lent.{Leaves}
-use Rattle.blocks.specs.Places.{Whole, stream_at}
-use Rattle.refusals.specs.Said.{answers}
-use Rattle.whole.specs.Admissions.{announced_by, admission_says}
-use Rattle.sp.specs.Runs.{run_begin}
-use Rattle.sp.specs.ReadLists.{dss_run, dss_runs, ds2_runs}
-use Rattle.sp.specs.Readings.{reading_of, read_by, dss_reading, ds2_reading}
-use Rattle.sp.specs.Outcome.{Demuxes}
-use Rattle.sp.specs.Written.{Written}
-use Rattle.sp.specs.Inner.{RunWritten, Readable, AllReadable, Ready}
+use Rattle.sp.proofs.Blockwise.{blocks_begin, blocks_go_on, block_fits_lem, block_near}
 use Rattle.sp.proofs.write_dss.Goals as goal
 
 pub loop-block-init : goal.loop-block-init

@@ -1,9 +1,8 @@
 -- `sp::write_dss` meets its contract: after b blocks their runs are written, and what they carry goes on.
 -- Assumes nothing.
 use Prim.Native.Nat.{◌-◌, ◌*◌}
-use native.Mathlib.Omega.{arith}
 use Rattle.blocks.specs.Places.{stream_at}
-use Rattle.sp.proofs.Blockwise.{Blockwise, blocks_begin, blocks_go_on, block_fits_lem, block_near, blocks_end}
+use Rattle.sp.proofs.Blockwise.{Blockwise}
 use Rattle.sp.proofs.write_dss.Given as goal
 
 abbrev pub invariant-loop-block : goal.invariant-loop-block

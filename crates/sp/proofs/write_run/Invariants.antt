@@ -1,9 +1,8 @@
 -- `sp::write_run` meets its contract: after n packets the walk stands where the definition says, and both buffers hold them.
 -- Assumes nothing.
 use Prim.Native.Nat.{◌-◌, ◌*◌}
-use native.Mathlib.Omega.{arith}
 use Rattle.blocks.specs.Places.{stream_at}
-use Rattle.sp.proofs.Written.{Running, run_begins, run_goes_on, run_ends}
+use Rattle.sp.proofs.Written.{Running}
 use Rattle.sp.proofs.write_run.Given as goal
 
 abbrev pub invariant-loop-n : goal.invariant-loop-n

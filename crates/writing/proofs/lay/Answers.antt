@@ -1,13 +1,9 @@
 -- `writing::lay` meets its contract: the output holds the file of the packets so far.
 -- Assumes nothing.
-use Prim.Native.Nat.{◌-◌, ◌≤◌}
 use mathlib.Core.Path.{refl}
 use native.Mathlib.Omega.{arith}
-use Rattle.laying.specs.Inner.{Holds}
-use Rattle.writing.specs.Laying.{part_laid, byte_in}
-use Rattle.writing.proofs.Turns.{none_yet, few_there, laid_all}
+use Rattle.writing.proofs.Turns.{none_yet, few_there}
 use borrow.Author.Rules.{rules}
-use Rattle.std.proofs.Common.{◌≡◌, ◌+◌, ◌*◌, ◌/◌, ◌<◌, ◌^◌, ◌%◌, [], ◌∷◌, ◌++◌}
 use Rattle.writing.proofs.lay.Goals as goal
 
 pub loop-k-init : goal.loop-k-init

@@ -1,11 +1,8 @@
 -- `writing::lay` meets its contract: the output holds the file of the packets so far.
 -- Assumes nothing.
 use Prim.Native.Nat.{◌-◌, ◌≤◌}
-use mathlib.Core.Path.{refl}
-use native.Mathlib.Omega.{arith}
 use Rattle.laying.specs.Inner.{Holds}
 use Rattle.writing.specs.Laying.{part_laid, byte_in}
-use Rattle.writing.proofs.Turns.{none_yet, few_there, laid_all}
 use Rattle.writing.proofs.lay.Given as goal
 
 abbrev pub invariant-loop-k : goal.invariant-loop-k

@@ -1,10 +1,9 @@
 -- `writing::one_on` meets its contract: the bytes so far stand one place on.
 -- Assumes nothing.
 use Prim.Native.Nat.{◌+◌, ◌-◌, ◌≤◌}
-use mathlib.Core.Path.{◌≡◌, refl, ◌∙◌}
+use mathlib.Core.Path.{◌≡◌}
 use lib.ListN.{length, get_or}
 use Rattle.tables.specs.Lent.{Leaves}
-use Rattle.tables.proofs.Lent.{leaves_none, leaves_more, leaves_to}
 use Rattle.writing.proofs.one_on.Given as goal
 
 abbrev pub invariant-loop-k : goal.invariant-loop-k

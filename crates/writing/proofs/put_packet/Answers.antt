@@ -1,13 +1,11 @@
 -- `writing::put_packet` meets its contract: its read, or its byte 1 and its read; then it is counted.
 -- Assumes nothing.
 use Prim.Native.Nat.{ℕ, ◌+◌}
-use mathlib.Core.Path.{◌≡◌, refl, ap}
+use mathlib.Core.Path.{◌≡◌, ap}
 use native.Mathlib.Omega.{arith}
 use lib.ListN.{get_or}
 use Rattle.writing.proofs.Inverse.{plain_gathered, swapped_gathered}
-use Rattle.writing.proofs.Turns.{puts_even, puts_odd, still_few}
-use borrow.Author.Rules.{rules}
-use Rattle.std.proofs.Common.{◌*◌, ◌/◌, ◌≤◌, ◌<◌, ◌^◌, ◌-◌, ◌%◌, [], ◌∷◌, ◌++◌}
+use Rattle.writing.proofs.Turns.{puts_even, puts_odd}
 use Rattle.writing.proofs.put_packet.Goals as goal
 
 pub returns-then-number-eq0 : goal.returns-then-number-eq0

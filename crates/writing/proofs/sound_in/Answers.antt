@@ -1,12 +1,8 @@
 -- `writing::sound_in` meets its contract: every packet so far is sound.
 -- Assumes nothing.
-use Prim.Native.Nat.{ℕ, ◌-◌, ◌≤◌, ◌<◌}
-use mathlib.Core.Path.{◌≡◌, sym}
-use native.Mathlib.Nat.{not-suc-le-zero}
-use Rattle.writing.specs.Laying.{many_in, byte_in}
-use Rattle.writing.proofs.Outcome.{sound_upto, sound_more}
+use mathlib.Core.Path.{sym}
+use Rattle.writing.proofs.Outcome.{sound_upto}
 use borrow.Author.Rules.{rules}
-use Rattle.std.proofs.Common.{◌+◌, ◌*◌, ◌/◌, ◌^◌, ◌%◌, [], ◌∷◌, ◌++◌}
 use Rattle.writing.proofs.sound_in.Goals as goal
 
 pub returns-then-packets-k-ne0 : goal.returns-then-packets-k-ne0

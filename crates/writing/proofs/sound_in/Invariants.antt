@@ -1,10 +1,8 @@
 -- `writing::sound_in` meets its contract: every packet so far is sound.
 -- Assumes nothing.
 use Prim.Native.Nat.{ℕ, ◌-◌, ◌≤◌, ◌<◌}
-use mathlib.Core.Path.{◌≡◌, sym}
-use native.Mathlib.Nat.{not-suc-le-zero}
+use mathlib.Core.Path.{◌≡◌}
 use Rattle.writing.specs.Laying.{many_in, byte_in}
-use Rattle.writing.proofs.Outcome.{sound_upto, sound_more}
 use Rattle.writing.proofs.sound_in.Given as goal
 
 abbrev pub invariant-loop-k : goal.invariant-loop-k

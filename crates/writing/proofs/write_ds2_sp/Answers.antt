@@ -2,10 +2,8 @@
 -- Assumes nothing.
 use Prim.Native.Nat.{◌+◌, ◌*◌}
 use mathlib.Core.Path.{sym, ◌∙◌}
-use borrow.Author.Tests.{not-true, not-false}
 use Rattle.writing.proofs.Outcome.{refused_15, refused_16, refused_17, refused_8, is_ready, written}
 use borrow.Author.Rules.{rules}
-use Rattle.std.proofs.Common.{◌≡◌, ◌/◌, ◌≤◌, ◌<◌, ◌^◌, ◌-◌, ◌%◌, [], ◌∷◌, ◌++◌}
 use Rattle.writing.proofs.write_ds2_sp.Goals as goal
 
 pub returns-then-not-is_header : goal.returns-then-not-is_header

@@ -1,9 +1,7 @@
 -- `hold::bytes::clear` meets its contract: the places so far are 0, and no other changes.
 -- Assumes nothing.
 use Prim.Native.Nat.{◌-◌, ◌≤◌}
-use mathlib.Core.Path.{refl}
 use Rattle.tables.specs.Lent.{Leaves}
-use Rattle.tables.proofs.Lent.{leaves_none, leaves_more, leaves_to}
 use Rattle.hold.proofs.bytes.clear.Given as goal
 
 abbrev pub invariant-loop-k : goal.invariant-loop-k

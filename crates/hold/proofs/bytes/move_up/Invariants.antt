@@ -3,8 +3,6 @@
 use Prim.Native.Nat.{◌+◌, ◌-◌, ◌≤◌}
 use lib.ListN.{get_or}
 use Rattle.tables.specs.Lent.{Leaves}
-use Rattle.tables.proofs.Lent.{leaves_none, leaves_to}
-use Rattle.hold.proofs.Moving.{move_one}
 use Rattle.hold.proofs.bytes.move_up.Given as goal
 
 abbrev pub invariant-loop-k : goal.invariant-loop-k

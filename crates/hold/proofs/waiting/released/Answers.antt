@@ -1,16 +1,9 @@
 -- `hold::waiting::released` meets its contract: the blocks so far are all read, and the first that is not is the front.
 -- Assumes nothing.
-use Prim.Native.Nat.{◌-◌}
 use native.Mathlib.Omega.{arith}
-use Rattle.hold.proofs.Leaving.{Leaving, leaving_begins, leaving_goes_on, not_read, leaving_ends}
+use Rattle.hold.proofs.Leaving.{leaving_goes_on, not_read, leaving_ends}
 use borrow.Author.Rules.{rules}
-use Rattle.std.proofs.Common.{rules, ◌≡◌, List, true, ℕ, ◌+◌, ◌*◌, ◌-◌, ◌≤◌, ◌<◌, length, get_or, ◌/◌, ◌%◌, Bool, false, nat_eq, nat_lt, [], ◌∷◌, ◌++◌, slice_set, bit_and, bit_or, Fits, w8, w32, w64, Bor, MutBor}
-use Rattle.tables.specs.Lent.{Leaves}
-use Rattle.blocks.specs.Headers.{announced_in, flag_of, header_byte}
-use Rattle.sp.specs.ReadLists.{dss_run}
-use Rattle.hold.specs.Ready.{reading_in, read_in, front}
-use Rattle.hold.specs.Held.{headers_from}
-use Rattle.hold.specs.Inner.{PartWritten, Queued}
+use Rattle.std.proofs.Common.{rules}
 use Rattle.hold.proofs.waiting.released.Goals as goal
 
 pub returns-then-long-end : goal.returns-then-long-end

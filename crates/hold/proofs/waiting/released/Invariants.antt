@@ -1,8 +1,7 @@
 -- `hold::waiting::released` meets its contract: the blocks so far are all read, and the first that is not is the front.
 -- Assumes nothing.
 use Prim.Native.Nat.{◌-◌}
-use native.Mathlib.Omega.{arith}
-use Rattle.hold.proofs.Leaving.{Leaving, leaving_begins, leaving_goes_on, not_read, leaving_ends}
+use Rattle.hold.proofs.Leaving.{Leaving}
 use Rattle.hold.proofs.waiting.released.Given as goal
 
 abbrev pub invariant-loop-blocks : goal.invariant-loop-blocks

@@ -1,20 +1,11 @@
 -- `hold::waiting::write_waiting` meets its contract: block by block the parts follow one another.
 -- Assumes nothing.
-use Prim.Native.Nat.{◌+◌, ◌-◌, ◌<◌}
+use Prim.Native.Nat.{◌+◌, ◌<◌}
 use mathlib.Core.Path.{refl}
 use native.Mathlib.Omega.{arith}
-use lib.ListN.{length}
 use Rattle.blocks.specs.Places.{stream_at}
-use Rattle.hold.specs.Inner.{Queued}
-use Rattle.hold.proofs.Queue.{Queueing, queue_begins, block_there, part_asked, queue_goes_on, queue_ends}
-use borrow.Author.Rules.{rules}
-use Rattle.std.proofs.Common.{rules, ◌≡◌, List, true, ℕ, ◌+◌, ◌*◌, ◌-◌, ◌≤◌, ◌<◌, length, get_or, ◌/◌, ◌%◌, Bool, false, nat_eq, nat_lt, [], ◌∷◌, ◌++◌, slice_set, bit_and, bit_or, Fits, w8, w32, w64, Bor, MutBor}
-use Rattle.tables.specs.Lent.{Leaves}
-use Rattle.blocks.specs.Headers.{announced_in, flag_of, header_byte}
-use Rattle.sp.specs.ReadLists.{dss_run}
-use Rattle.hold.specs.Ready.{reading_in, read_in, front}
-use Rattle.hold.specs.Held.{headers_from}
-use Rattle.hold.specs.Inner.{PartWritten, Queued}
+use Rattle.hold.proofs.Queue.{block_there, part_asked, queue_goes_on}
+use Rattle.std.proofs.Common.{◌+◌, ◌<◌}
 use Rattle.hold.proofs.waiting.write_waiting.Goals as goal
 use Rattle.hold.proofs.waiting.write_waiting.Goals.{In-loop-left}
 

@@ -1,12 +1,9 @@
 -- `hold::waiting::write_waiting` meets its contract: block by block the parts follow one another.
 -- Assumes nothing.
-use Prim.Native.Nat.{◌+◌, ◌-◌, ◌<◌}
-use mathlib.Core.Path.{refl}
-use native.Mathlib.Omega.{arith}
+use Prim.Native.Nat.{◌+◌, ◌-◌}
 use lib.ListN.{length}
-use Rattle.blocks.specs.Places.{stream_at}
 use Rattle.hold.specs.Inner.{Queued}
-use Rattle.hold.proofs.Queue.{Queueing, queue_begins, block_there, part_asked, queue_goes_on, queue_ends}
+use Rattle.hold.proofs.Queue.{Queueing}
 use Rattle.hold.proofs.waiting.write_waiting.Given as goal
 
 abbrev pub invariant-loop-left : goal.invariant-loop-left
