@@ -10,18 +10,18 @@ use Rattle.tables.proofs.Cases.{by_order}
 use Rattle.blocks.specs.Places.{block_at, stream_at}
 use Rattle.blocks.specs.Headers.{Bytes, first_of}
 use Rattle.refusals.specs.declared.Refusal.{Refusal}
-use Rattle.refusals.specs.Said.{answers, refusal}
-use Rattle.refusals.proofs.Said.{not_both, by_refusal, by_onward}
+use Rattle.refusals.specs.Said.{refusal}
+use Rattle.refusals.proofs.Said.{not_both, by_refusal}
 use Rattle.whole.specs.declared.Recording.{Recording}
 use Rattle.whole.specs.Admissions.{stream_in}
 use Rattle.frames.specs.Start.{frames_start}
 use Rattle.frames.proofs.Start.{starts_inside}
 use Rattle.qp7.specs.Records.{record_size, record_at}
 use Rattle.qp7.specs.Lacking.{Stops, Lacks}
-use Rattle.qp7.specs.Walk.{Gathered, closing, gathered_to, gathered_from}
+use Rattle.qp7.specs.Walk.{Gathered}
 use Rattle.qp7.proofs.Records.{long_size, short_size, record_found}
 use Rattle.qp7.proofs.Closing.{closing_place}
-use Rattle.qp7.proofs.Keeping.{Kept, walk_stops}
+use Rattle.qp7.proofs.Keeping.{Kept}
 
 size_even : (second : ℕ) → record_size second % 2 ≡ 0
 size_even second = by_order second 128 (λ h. omega (arith, short_size second h)) (λ h. omega (arith, long_size second h))
@@ -31,11 +31,11 @@ unfolding frames_start
 start_even b byte1 = omega arith
 
 -- the walk stands at an even place, at most at the stream's end
-abbrev Stands : ℕ → Gathered → Type 0
+abbrev pub Stands : ℕ → Gathered → Type 0
 Stands n g = (g.place % 2 ≡ 0) × (g.place ≤ 506 * n)
 
 -- no step breaks that
-standing_kept : (f : List ℕ) (a n : ℕ) → Bytes f → Kept f a n (Stands n)
+pub standing_kept : (f : List ℕ) (a n : ℕ) → Bytes f → Kept f a n (Stands n)
 standing_kept f a n bytes =
     record {
       at_first = (omega arith, omega arith);
@@ -52,7 +52,7 @@ standing_kept f a n bytes =
     }
 
 -- what is said of a record at an even place, where the walk stops
-lacks_there : (f : List ℕ) (rec : Recording) (q : ℕ) {why : Refusal} → Stops f rec.start.0 rec.blocks q → q % 2 ≡ 0 → q ≤ 506 * rec.blocks
+pub lacks_there : (f : List ℕ) (rec : Recording) (q : ℕ) {why : Refusal} → Stops f rec.start.0 rec.blocks q → q % 2 ≡ 0 → q ≤ 506 * rec.blocks
     → record_at (stream_in f rec) (506 * rec.blocks) q ≡ refusal why → Lacks f rec why
 unfolding record_at
 lacks_there f rec q stops even inside e =
@@ -80,16 +80,3 @@ lacks_there f rec q stops even inside e =
       cut = λ five. absurd (omega (arith, five));
       untold = λ four. (refl, omega (arith, none, even, inside), omega (arith, none, even, inside));
     }))
-
--- so of any recording whose records cannot all be read
-pub gathered_lacks : (f : List ℕ) (rec : Recording) → Bytes f → {why : Refusal} → gathered_from f rec ≡ refusal why
-    → Lacks f rec why
-unfolding gathered_from
-gathered_lacks f rec bytes e =
-    let a = rec.start.0 in
-    let n = rec.blocks in
-    by_onward (gathered_to f a n n) (λ g. answers (closing g)) e
-    (λ stopped.
-    let w = walk_stops {P = Stands n} f a n (standing_kept f a n bytes) n (omega arith) stopped in
-    lacks_there f rec w.here.place w.stops w.holds.0 w.holds.1 w.refused)
-    (λ g came r. absurd (not_both (sym r)))

@@ -12,4 +12,5 @@ pub mod Shares
 pub mod Words
 pub mod Refusing
 pub mod Lacking
+pub mod Stopping
 pub mod Theorems

@@ -33,7 +33,7 @@ use Rattle.qp7.specs.Outcome.{record_words, segment_words, in_room, in_tables, t
 use Rattle.qp7.proofs.Records.{size_bounds}
 use Rattle.qp7.proofs.Keeping.{records_many, admitted_first}
 use Rattle.qp7.proofs.Lying.{gathered_lie}
-use Rattle.qp7.proofs.Lacking.{gathered_lacks}
+use Rattle.qp7.proofs.Stopping.{gathered_lacks}
 use Rattle.qp7.proofs.Shares.{gathered_shared}
 use Rattle.qp7.proofs.Words.{tables_by}
 use Rattle.qp7.proofs.Outcome.{segment_words_lem, room_8, room_9, room_for_all, accepted_read, Seen, only_outcome}

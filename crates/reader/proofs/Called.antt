@@ -19,7 +19,8 @@ use Rattle.reader.specs.Calls.{after_piece, after_end, Opens}
 use Rattle.reader.specs.History.{EndCall, OwedCall, packets_from, counts_from, joined, Fed, Drained, none, more, strictly, ended, refused, Called, InTwo}
 use Rattle.reader.specs.Agreement.{whole_reading, Agrees}
 use Rattle.reader.proofs.Laws.{steps_by, reached_by, piece_accepted}
-use Rattle.reader.proofs.Ends.{owed_is, end_passed, strict_none}
+use Rattle.reader.proofs.Ends.{owed_is, end_passed}
+use Rattle.reader.proofs.Within.{strict_none}
 use Rattle.reader.proofs.Folding.{kept_by, holding, opened_fed}
 use Rattle.reader.proofs.Counted.{none_uncounted, handed_with_owed}
 use Rattle.reader.proofs.Equal.{pieces_are_whole}

@@ -26,7 +26,8 @@ use Rattle.reader.specs.declared.Reader.{Reader}
 use Rattle.reader.specs.State.{State, is_dss, start_of, blocks_in, reading_by, handed, owed, reader_of, header_done, Sound, Reached}
 use Rattle.reader.specs.Calls.{end_by, end_said, after_end, handed_by, Ends}
 use Rattle.reader.proofs.Opened.{standing_of}
-use Rattle.reader.proofs.Ends.{owed_is, end_within}
+use Rattle.reader.proofs.Ends.{owed_is}
+use Rattle.reader.proofs.Within.{end_within}
 
 -- of blocks that were added one after another none lies past the hold's end
 held_within : (dss : Bool) (f : List ℕ) (a n : ℕ) → (0 < n → Whole f a n) → fits dss f a n ≡ true → 506 * n ≤ base_at dss f a n + 12288

@@ -119,19 +119,3 @@ module _ (choice phase a long owed room : ℕ) where
       let full = passed (header_full a long) 3 a (answers (min room owed)) (sym (chosen_lenient is) ∙ said) in
       leniently is full.0 (cc full.1))
       (λ not-strict not-lenient. absurd (not_both (sym (chosen_neither not-strict not-lenient) ∙ said)))
-
-module _ {s : State} (sound : Sound s) where
-  -- an end that is answered hands out no more packets than there is room for, and than are owed, of a recording with a full header
-  pub end_within : (choice room : ℕ) {n : ℕ} → end_said s choice room ≡ answers n → (n ≤ room) × (n ≤ owed s) × (header_done s ≡ true)
-  end_within choice room {n} said =
-      end_passed choice s.phase (start_of s.kind) (length s.bytes) (owed s) room said
-      (λ is e.
-      strict_passed s.phase _ _ (owed s) n e
-      (λ none ended. (omega arith, omega arith, sound.header (λ z. omega arith)))
-      (λ none full whole owes. (omega arith, omega arith, full)))
-      (λ is full many. (omega arith, omega arith, full))
-
-  -- a strict one none, and none is owed
-  pub strict_none : (room : ℕ) {n : ℕ} → end_said s strict room ≡ answers n → (n ≡ 0) × (owed s ≡ 0)
-  strict_none room {n} said =
-      strict_passed s.phase _ _ (owed s) n said (λ none ended. (none, sound.ended ended)) (λ none full whole owes. (none, owes))

@@ -18,7 +18,7 @@ use Rattle.reader.specs.Calls.{open_said, after_open, after_piece, strict, end_s
 use Rattle.reader.specs.History.{PieceCall, EndCall, joined, Refuses, a_piece, an_end, Fed, Drained, none, more, strictly, refused}
 use Rattle.reader.proofs.Parts.{Part, part_none, part_joined, ready_in_header, ready_more, part_stays}
 use Rattle.reader.proofs.Laws.{steps_by, hands_by, part_written, piece_accepted, lenient_many}
-use Rattle.reader.proofs.Ends.{end_within, strict_none}
+use Rattle.reader.proofs.Within.{end_within, strict_none}
 
 -- a state with other bytes
 abbrev pub holding : State → List ℕ → State

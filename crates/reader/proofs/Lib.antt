@@ -1,6 +1,7 @@
 -- The laws and theorems that belong to no one function. They rest on the definitions in specs/.
 pub mod Opened
 pub mod Ends
+pub mod Within
 pub mod Draining
 pub mod Parts
 pub mod Laws

@@ -17,7 +17,7 @@ use Rattle.reader.specs.State.{State, opened, owed, header_done, Sound}
 use Rattle.reader.specs.Calls.{open_said, after_open, brings, piece_said, after_piece, lenient_by, lenient, end_said, after_end, Reachable, by_open, by_piece, by_end}
 use Rattle.reader.proofs.Opened.{opened_sound}
 use Rattle.reader.proofs.Piecing.{next_sound}
-use Rattle.reader.proofs.Ends.{end_within}
+use Rattle.reader.proofs.Within.{end_within}
 use Rattle.reader.proofs.Draining.{drained_sound}
 use Rattle.reader.proofs.Folding.{holding, lighter}
 

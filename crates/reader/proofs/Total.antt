@@ -21,7 +21,8 @@ use Rattle.reader.specs.State.{State, is_dss, start_of, blocks_in, opened, unope
 use Rattle.reader.specs.Calls.{after_open, piece_said, after_piece, strict_by, lenient_by, strict, lenient, end_said, after_end, handed_by, Opens}
 use Rattle.reader.specs.History.{PieceCall, EndCall, OwedCall}
 use Rattle.reader.proofs.Laws.{at_state, steps_by, hands_by, refused_by, reached_by, only_step, only_outcome, seven_given_by, header_full_lem, bytes_joined, ends_empty}
-use Rattle.reader.proofs.Ends.{chosen_neither, strict_none}
+use Rattle.reader.proofs.Ends.{chosen_neither}
+use Rattle.reader.proofs.Within.{strict_none}
 use Rattle.reader.proofs.Folding.{after_strict}
 
 -- The calls demand one thing, a reader that open or an earlier call gave back. Open, refused too, gives one back.

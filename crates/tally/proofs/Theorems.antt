@@ -33,7 +33,7 @@ use Rattle.qp.proofs.Kept.{totals_add_up, handed_or_missing}
 use Rattle.qp7.specs.Walk.{gathered_from}
 use Rattle.qp7.specs.Lacking.{Lacks}
 use Rattle.qp7.proofs.Keeping.{records_many}
-use Rattle.qp7.proofs.Lacking.{gathered_lacks}
+use Rattle.qp7.proofs.Stopping.{gathered_lacks}
 use Rattle.tally.specs.declared.HandedOut.{HandedOut}
 use Rattle.tally.specs.declared.FileKind.{FileKind}
 use Rattle.tally.specs.declared.FileKind.TheVariants.{DssSp, Ds2Sp, Ds2Qp, Ds2Qp7}
