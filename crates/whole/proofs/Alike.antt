@@ -19,7 +19,7 @@ use Rattle.detect.specs.declared.Kind.{Kind}
 use Rattle.detect.specs.Start.{audio_start}
 use Rattle.detect.specs.Kinds.{first_type, format_type, read_as}
 use Rattle.whole.specs.declared.Recording.{Recording}
-use Rattle.whole.specs.Admissions.{admission_at, admission_by, admission, type_in, ds2_admission}
+use Rattle.whole.specs.Admissions.{admission_at, admission_by, admission, type_in, of_kind, ds2_admission}
 use Rattle.whole.proofs.Admissions.{ds2_recording}
 
 -- after the first byte two files that differ only in it are alike
@@ -27,7 +27,7 @@ pub after_first : (x y : ℕ) (rest : List ℕ) (a : ℕ) → 1 ≤ a → AlikeF
 after_first x y rest a past zero h = let never : 1 ≤ zero = omega arith in absurd (not-suc-le-zero never)
 after_first x y rest a past (suc i) h = refl
 
--- alike from the audio start on, and equally long: the same type
+-- alike from the audio start on, and equally long: the same type, and the same kind
 module _ (a : ℕ) (f g : List ℕ) (alike : AlikeFrom a f g) where
   first_type_alike : (n b : ℕ) → first_type f a n b ≡ first_type g a n b
   unfolding first_type
@@ -37,6 +37,11 @@ module _ (a : ℕ) (f g : List ℕ) (alike : AlikeFrom a f g) where
   type_alike : length f ≡ length g → (rec : Recording) → rec.start.0 ≡ a → type_in f rec ≡ type_in g rec
   unfolding format_type
   type_alike long rec start = rw (long, start) (first_type_alike (whole_blocks (length g) a) 0)
+
+  pub kind_alike : length f ≡ length g → (kind : Kind) (n : ℕ)
+      → of_kind f kind (record { start = record { 0 = a }; blocks = n }) ≡ of_kind g kind (record { start = record { 0 = a }; blocks = n })
+  unfolding format_type
+  kind_alike long kind n = rw long (cc (first_type_alike (whole_blocks (length g) a) 0))
 
 -- a file that begins with 1 and one that begins with 3 are both admitted as DS2 files, or both refused
 by_tests : (short dss ds2 : Bool) (rest : List ℕ)
