@@ -121,6 +121,11 @@ def refused_itself(crate: str, what: str, log: str) -> bool:
     return bool(OPEN.search(told.group(1)) or own)
 
 
+def unfit(log: str) -> bool:
+    """Whether what the check says is that a name is gone, on which a proof rests."""
+    return any(UNFIT.search(text) for path, name, text in ERROR.findall(log))
+
+
 def faults(room: str, logs: str, crate: str, edit: str) -> list[str]:
     """What is wrong with an edit."""
     found = programs(f"crates/{crate}/must-fail/{edit}.edit")
@@ -128,7 +133,7 @@ def faults(room: str, logs: str, crate: str, edit: str) -> list[str]:
     log = said(room, crate, found, f"{logs}/{crate}/{edit}/.log")
     if "\nlogic=not-proved" not in log:
         return wrong + [f"{crate}/{edit} was not tried to an end, or is proved"]
-    if any(UNFIT.search(text) for path, name, text in ERROR.findall(log)):
+    if unfit(log):
         wrong.append(f"{crate}/{edit} makes a proof unfit for its code")
     refusing = [what for program in found for what in program["refused"]]
     if len(set(refusing)) < len(refusing):
@@ -137,10 +142,10 @@ def faults(room: str, logs: str, crate: str, edit: str) -> list[str]:
         name, refused = program["name"], program["refused"]
         if not re.fullmatch(r"[a-z0-9_]+", name) or len(refused) != 1 or not program["pairs"]:
             wrong.append(f"{crate}/{edit}: '{name}' lacks its name, what refuses it or a replacement")
-        elif not refused_itself(crate, refused[0], log) and (
-            len(found) == 1 or not refused_itself(crate, refused[0], said(room, crate, [program], f"{logs}/{crate}/{edit}/{name}.log"))
-        ):
-            wrong.append(f"{crate}/{name}: {refused[0]} is not refused by a fact of its own in {edit}")
+        elif not refused_itself(crate, refused[0], log):
+            alone = said(room, crate, [program], f"{logs}/{crate}/{edit}/{name}.log") if len(found) > 1 else ""
+            if unfit(alone) or not refused_itself(crate, refused[0], alone):
+                wrong.append(f"{crate}/{name}: {refused[0]} is not refused by a fact of its own in {edit}")
     return wrong
 
 

@@ -19,9 +19,9 @@ Made by .ci/figures.py. The counts are those of the sources, and the gate compar
 """
 TAIL = """
 What a run of `rt ci` passed is kept on its machine: of the crates and edits that have not changed since it proves and tries none anew, and its
-time above is that of what it did. A crate's wrong programs are tried by its edits, under must-fail/, and those of an edit with several once
-more, alone. Lines that are blank or only a comment are not counted; `use` lines are, but for those that sources have for their contracts
-alone. Functions are all of a crate's, public or not; each is proved to meet its contract.
+time above is that of what it did. A crate's wrong programs are tried by its edits, under must-fail/, which rt tries and .ci/edits.py once more, and one
+of several by itself where the check does not come to it. Lines that are blank or only a comment are not counted; `use` lines are, but for
+those that sources have for their contracts alone. Functions are all of a crate's, public or not; each is proved to meet its contract.
 """
 COUNTS = ["functions", "code", "contracts", "definitions", "proof", "wrong programs", "edits"]
 WRITE = "write target/gate.log"

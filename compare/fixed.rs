@@ -1,6 +1,5 @@
-// The worked examples of docs/FORMAT.md and the listing's file, with the numbers written out by hand, every type, and recordings at an edge: counts
-// of 255, rooms by the byte, sizes one short, pieces of one byte, blocks that wait, a full hold. It rests on the comparisons of a whole file and of
-// its pieces.
+// The worked examples of docs/FORMAT.md and the listing's file, with the numbers written out by hand, and recordings at an edge: counts of 255,
+// rooms by the byte, sizes one short, pieces of one byte, blocks that wait, a full hold. It rests on the comparisons of a whole file and of its pieces.
 use crate::both::Both;
 use crate::common::files::{self, file, Dice};
 use crate::common::model::refused;
