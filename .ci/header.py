@@ -1,5 +1,5 @@
 """header.py HEADER FOLDER README [ARCHIVE]: include/klovdrun.h and the Rust crate whose sources are in FOLDER say what the exports of
-crates/klovdrun and the structs that they answer say.
+crates/klovdrun_c and the structs that they answer say.
 
 Reads the exports' signatures and the structs from the Rattle sources, writes what C and Rust must say of them, and compares: names, order,
 types, sizes, constants, the version, the refusals of each call with their names and sentences, the numbers of formats and kinds, and the
@@ -14,6 +14,7 @@ import sys
 
 SCALARS = {"u8": ("uint8_t", 1), "u32": ("uint32_t", 4), "u64": ("uint64_t", 8), "usize": ("size_t", 8)}
 RATTLE = "crates/klovdrun/src/lib.rt"
+EXPORTS = "crates/klovdrun_c/src/lib.rt"
 STRUCTS = {"Reader": "crates/reader/src/lib.rt", "Answer": "crates/numbers/src/lib.rt", "Tallied": "crates/numbers/src/lib.rt",
            "Entry": "crates/numbers/src/lib.rt", "Opened": RATTLE}
 CONSTANTS = {"LIMIT": "blocks::LIMIT", "PACKET": "packets::PACKET", "FRAME": "frames::FRAME", "PAYLOAD": "blocks::PAYLOAD",
@@ -46,7 +47,7 @@ def exports():
     """Each export as (name, [(parameter, type)], result)."""
     found = []
     pattern = r'#\[unsafe\(no_mangle\)\]\s+pub extern "C" fn (\w+)\((.*?)\) -> (\w+)\s'
-    for name, inside, result in re.findall(pattern, text(RATTLE), re.S):
+    for name, inside, result in re.findall(pattern, text(EXPORTS), re.S):
         words = [word.split(":", 1) for word in squeeze(inside).rstrip(",").split(",") if word]
         found.append((name, [(one.strip(), other.strip()) for one, other in words], result))
     return found

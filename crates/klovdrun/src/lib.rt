@@ -1,4 +1,4 @@
-// For the host: a reader that is advanced where it stands, and the public calls under C names. Nothing is decided here: an export calls
+// For the host: a reader that is advanced where it stands, and the public calls under C names. Nothing is decided here: a call goes to
 // one of the crates below and hands its numbers over. Rests on all of them. include/klovdrun.h says the same in C.
 #![tactic(auto)]
 
@@ -40,38 +40,33 @@ pub struct Opened {
     pub reader: Reader,
 }
 
-#[unsafe(no_mangle)]
-pub extern "C" fn klov_version() -> u64
+pub fn klov_version() -> u64
     ensures { result ≡ version }
 {
     VERSION
 }
 
-#[unsafe(no_mangle)]
-pub extern "C" fn klov_detect_format(file: &[u8]) -> u8
+pub fn klov_detect_format(file: &[u8]) -> u8
     ensures { result ≡ format_number (detected file.now) }
 {
     let format = detect::detect_format(file);
     numbers::of_format(format)
 }
 
-#[unsafe(no_mangle)]
-pub extern "C" fn klov_detect_ds2_audio_start(file: &[u8]) -> usize
+pub fn klov_detect_ds2_audio_start(file: &[u8]) -> usize
     ensures { result ≡ audio_start file.now }
 {
     let start = detect::ds2::detect_ds2_audio_start(file);
     start.0
 }
 
-#[unsafe(no_mangle)]
-pub extern "C" fn klov_detect_ds2_format_type(file: &[u8], header_size: usize) -> u8
+pub fn klov_detect_ds2_format_type(file: &[u8], header_size: usize) -> u8
     ensures { result ≡ format_type file.now header_size }
 {
     detect::ds2::detect_ds2_format_type(file, FilePlace(header_size))
 }
 
-#[unsafe(no_mangle)]
-pub extern "C" fn klov_is_ds2_audio_block_header(header: &[u8]) -> u8
+pub fn klov_is_ds2_audio_block_header(header: &[u8]) -> u8
     ensures { result ≡ truth_number (good_header header.now) }
 {
     let good = detect::ds2::is_ds2_audio_block_header(header);
@@ -79,8 +74,7 @@ pub extern "C" fn klov_is_ds2_audio_block_header(header: &[u8]) -> u8
 }
 
 // First: the file place of the block's 506 bytes.
-#[unsafe(no_mangle)]
-pub extern "C" fn klov_payload(file: &[u8], block: usize) -> Answer
+pub fn klov_payload(file: &[u8], block: usize) -> Answer
     ensures { result ≡ one_number (payload_place file.now block) }
 {
     let answer = whole::payload_place(file, block);
@@ -88,8 +82,7 @@ pub extern "C" fn klov_payload(file: &[u8], block: usize) -> Answer
 }
 
 // First: packets.
-#[unsafe(no_mangle)]
-pub extern "C" fn klov_demux_dss(file: &[u8], out: &mut [u8], counts: &mut [u8]) -> Answer
+pub fn klov_demux_dss(file: &[u8], out: &mut [u8], counts: &mut [u8]) -> Answer
     ensures { SpCarries (dss_reading file.now) out.old out.new counts.old counts.new result }
 {
     let answer = sp::demux_dss(file, out, counts);
@@ -97,8 +90,7 @@ pub extern "C" fn klov_demux_dss(file: &[u8], out: &mut [u8], counts: &mut [u8])
 }
 
 // First: packets.
-#[unsafe(no_mangle)]
-pub extern "C" fn klov_demux_ds2_sp(file: &[u8], out: &mut [u8], counts: &mut [u8]) -> Answer
+pub fn klov_demux_ds2_sp(file: &[u8], out: &mut [u8], counts: &mut [u8]) -> Answer
     ensures { SpCarries (ds2_reading file.now) out.old out.new counts.old counts.new result }
 {
     let answer = sp::demux_ds2(file, out, counts);
@@ -106,13 +98,7 @@ pub extern "C" fn klov_demux_ds2_sp(file: &[u8], out: &mut [u8], counts: &mut [u
 }
 
 // First: 1, the packet of that number.
-#[unsafe(no_mangle)]
-pub extern "C" fn klov_ds2_sp_packet(
-    file: &[u8],
-    number: usize,
-    out: &mut [u8],
-    counts: &mut [u8],
-) -> Answer
+pub fn klov_ds2_sp_packet(file: &[u8], number: usize, out: &mut [u8], counts: &mut [u8]) -> Answer
     ensures { SpCarries (packet_reading file.now number) out.old out.new counts.old counts.new result }
 {
     let answer = at_once::ds2_sp_packet(file, number, out, counts);
@@ -120,8 +106,7 @@ pub extern "C" fn klov_ds2_sp_packet(
 }
 
 // First: segments. Second: frames announced.
-#[unsafe(no_mangle)]
-pub extern "C" fn klov_demux_ds2_qp(file: &[u8], table: &mut [u32]) -> Answer
+pub fn klov_demux_ds2_qp(file: &[u8], table: &mut [u32]) -> Answer
     ensures { QpCarries (qp_reading file.now) table.old table.new result }
 {
     let answer = qp::demux_ds2_qp(file, table);
@@ -129,12 +114,7 @@ pub extern "C" fn klov_demux_ds2_qp(file: &[u8], table: &mut [u32]) -> Answer
 }
 
 // First: records. Second: segments.
-#[unsafe(no_mangle)]
-pub extern "C" fn klov_demux_ds2_qp7(
-    file: &[u8],
-    records: &mut [u32],
-    segments: &mut [u32],
-) -> Answer
+pub fn klov_demux_ds2_qp7(file: &[u8], records: &mut [u32], segments: &mut [u32]) -> Answer
     ensures { Qp7Carries (qp7_reading file.now) records.old records.new segments.old segments.new result }
 {
     let answer = qp7::demux_ds2_qp7(file, records, segments);
@@ -142,8 +122,7 @@ pub extern "C" fn klov_demux_ds2_qp7(
 }
 
 // Frame k of a segment that has so many bytes from a start on. First: its place in the payload stream. Second: its size, 0 when missing.
-#[unsafe(no_mangle)]
-pub extern "C" fn klov_frame(start: u64, length: u64, k: u64) -> Answer
+pub fn klov_frame(start: u64, length: u64, k: u64) -> Answer
     ensures { result ≡ found_numbers (frame_of start length k) }
 {
     let found = frames::frame(StreamPlace(start as usize), length as usize, k as usize);
@@ -152,13 +131,7 @@ pub extern "C" fn klov_frame(start: u64, length: u64, k: u64) -> Answer
 
 // Fills the scratch where the frame crosses a block. First 0: the frame is the file's bytes from file place second on. First 1: it is the
 // scratch's start.
-#[unsafe(no_mangle)]
-pub extern "C" fn klov_fetch(
-    file: &[u8],
-    stream_place: usize,
-    size: usize,
-    scratch: &mut [u8],
-) -> Answer
+pub fn klov_fetch(file: &[u8], stream_place: usize, size: usize, scratch: &mut [u8]) -> Answer
     ensures { FillCarries file.now stream_place size scratch.old scratch.new result }
 {
     let answer = frames::fill(file, StreamPlace(stream_place), size, scratch);
@@ -166,24 +139,21 @@ pub extern "C" fn klov_fetch(
 }
 
 // The same answer as klov_fetch's, with a scratch that is only read.
-#[unsafe(no_mangle)]
-pub extern "C" fn klov_show(file: &[u8], stream_place: usize, size: usize, scratch: &[u8]) -> Answer
+pub fn klov_show(file: &[u8], stream_place: usize, size: usize, scratch: &[u8]) -> Answer
     ensures { result ≡ stand_numbers (standing (fetch_from file.now stream_place size (length scratch.now)) stream_place size) }
 {
     let answer = frames::frame_place(file, StreamPlace(stream_place), size, scratch.len());
     numbers::of_stand(answer)
 }
 
-#[unsafe(no_mangle)]
-pub extern "C" fn klov_tally(file: &[u8]) -> Tallied
+pub fn klov_tally(file: &[u8]) -> Tallied
     ensures { result ≡ tally_numbers (tallied file.now) }
 {
     let answer = tally::tally(file);
     numbers::of_tally(answer)
 }
 
-#[unsafe(no_mangle)]
-pub extern "C" fn klov_open(kind: u64) -> Opened
+pub fn klov_open(kind: u64) -> Opened
     ensures { OpenCarries kind result }
 {
     let step = Reader::open(kind);
@@ -196,13 +166,7 @@ pub extern "C" fn klov_open(kind: u64) -> Opened
 }
 
 // A piece, where the reader stands. First: packets. Second: frames owed afterwards, refused or not.
-#[unsafe(no_mangle)]
-pub extern "C" fn klov_piece(
-    reader: &mut Reader,
-    src: &[u8],
-    out: &mut [u8],
-    counts: &mut [u8],
-) -> Answer
+pub fn klov_piece(reader: &mut Reader, src: &[u8], out: &mut [u8], counts: &mut [u8]) -> Answer
     requires { Reached reader.old }
     ensures { Advances (PieceCall reader.old src.now out.old out.new counts.old counts.new) reader.new result }
 {
@@ -212,13 +176,7 @@ pub extern "C" fn klov_piece(
 }
 
 // An end, where the reader stands, strict or lenient by the choice. First: packets. Second: frames owed afterwards, refused or not.
-#[unsafe(no_mangle)]
-pub extern "C" fn klov_end(
-    reader: &mut Reader,
-    choice: u64,
-    out: &mut [u8],
-    counts: &mut [u8],
-) -> Answer
+pub fn klov_end(reader: &mut Reader, choice: u64, out: &mut [u8], counts: &mut [u8]) -> Answer
     requires { Reached reader.old }
     ensures { Advances (EndCall reader.old choice out.old out.new counts.old counts.new) reader.new result }
 {
@@ -228,8 +186,7 @@ pub extern "C" fn klov_end(
 }
 
 // First: bytes of the file.
-#[unsafe(no_mangle)]
-pub extern "C" fn klov_write_ds2_sp(header: &[u8], packets: &[u8], out: &mut [u8]) -> Answer
+pub fn klov_write_ds2_sp(header: &[u8], packets: &[u8], out: &mut [u8]) -> Answer
     ensures { WriteCarries header.now packets.now out.old out.new result }
 {
     let answer = writing::write_ds2_sp(header, packets, out);
@@ -237,8 +194,7 @@ pub extern "C" fn klov_write_ds2_sp(header: &[u8], packets: &[u8], out: &mut [u8
 }
 
 // First: bytes of the index. Second: entries.
-#[unsafe(no_mangle)]
-pub extern "C" fn klov_build_index(file: &[u8], out: &mut [u8]) -> Answer
+pub fn klov_build_index(file: &[u8], out: &mut [u8]) -> Answer
     ensures { BuildCarries (contents_of file.now) out.old out.new result }
 {
     let answer = index::build_index(file, out);
@@ -246,16 +202,14 @@ pub extern "C" fn klov_build_index(file: &[u8], out: &mut [u8]) -> Answer
 }
 
 // First: entries. Second: packets in all.
-#[unsafe(no_mangle)]
-pub extern "C" fn klov_read_index(file: &[u8], index: &[u8]) -> Answer
+pub fn klov_read_index(file: &[u8], index: &[u8]) -> Answer
     ensures { result ≡ read_numbers (totalled (index_read file.now index.now)) }
 {
     let answer = index::read_index(file, index);
     numbers::of_read(answer)
 }
 
-#[unsafe(no_mangle)]
-pub extern "C" fn klov_find_entry(file: &[u8], index: &[u8], packet: usize) -> Entry
+pub fn klov_find_entry(file: &[u8], index: &[u8], packet: usize) -> Entry
     ensures { result ≡ entry_numbers (entry_found file.now index.now packet) }
 {
     let answer = finding::find_entry(file, index, packet);
@@ -263,8 +217,7 @@ pub extern "C" fn klov_find_entry(file: &[u8], index: &[u8], packet: usize) -> E
 }
 
 // First: 1, the packet of that number.
-#[unsafe(no_mangle)]
-pub extern "C" fn klov_dss_packet(
+pub fn klov_dss_packet(
     file: &[u8],
     index: &[u8],
     packet: usize,
