@@ -11,7 +11,7 @@ import sys
 from dataclasses import dataclass
 from functools import cache
 
-NAMED = re.compile(r"((?:`[^`]+`,? )+)in `(crates/[^`]+)`")
+NAMED = re.compile(r"((?:`[^`]+`,?\s)+)in\s`(crates/[^`]+)`")
 DEMANDS = "## The demands, and what says them\n"
 MARKED = re.compile(r" *((?:(?:abbrev|unfoldable|pub|record|data) )*)(\S+)(?: |$)")
 RATTLE = re.compile(r'( *)(pub )?(extern "C" )?(fn|struct|enum|const|impl) (\w+)')

@@ -2,8 +2,8 @@
 
 Whatever STATEMENTS names as `name` in `file` stands there: a theorem or definition that is `pub`, or a function that has an `ensures`. Under
 each heading that begins with a number every row of the table names one at least and six at most. What the page quotes, between fences, is a
-whole statement of those that it names, line breaks, comments and `pub` left aside. In PROGRAMS every wrong program of crates/*/must-fail
-is named, as `crate/program`, and no other, and it is said how many there are. Prints how many were found, and what was not.
+whole statement of those that the text right above it names, line breaks, comments and `pub` left aside. In PROGRAMS every wrong program of
+crates/*/must-fail is named, as `crate/program`, and no other, and it is said how many there are. Prints how many were found, and what was not.
 """
 import glob
 import re
@@ -36,10 +36,15 @@ def quotable(one: Declaration) -> str:
 
 
 def misquoted(text: str) -> list[str]:
-    """The paragraphs of quotes that are not what something says that is named."""
-    said = {quotable(declared(path)[name]) for name, path in named(text) if name in declared(path)}
-    quoted = [one_line(paragraph) for quote in FENCED.findall(text) for paragraph in quote.split("\n\n")]
-    return [quote for quote in quoted if quote not in said]
+    """The paragraphs of quotes that are not what something says that the text right above them names."""
+    wrong, near = [], []
+    for at, part in enumerate(FENCED.split(text)):
+        if at % 2 == 0:
+            near = named(part) or near
+            continue
+        said = {quotable(declared(path)[name]) for name, path in near if name in declared(path)}
+        wrong += [quote for quote in map(one_line, part.split("\n\n")) if quote not in said]
+    return wrong
 
 
 def rows(section: str) -> list[str]:
