@@ -10,14 +10,15 @@ use lib.Dec.{leb}
 use Rattle.tables.specs.Lent.{Leaves}
 use Rattle.tables.proofs.Cases.{by_order}
 use Rattle.tables.proofs.Lent.{leaves_at, leaves_as, leaves_to}
-use Rattle.refusals.specs.Said.{Said, answers, refuses, demand}
+use Rattle.refusals.specs.Said.{Said, answers, refuses, demand, result_says}
 use Rattle.refusals.proofs.Said.{for_the_answer}
-use Rattle.sp.specs.declared.Demuxed.{Demuxed}
 use Rattle.sp.specs.Readings.{Reading, total, packet_at, file_count_at}
-use Rattle.sp.specs.Outcome.{in_room, answered, demuxed_says, Demuxes}
+use Rattle.sp.specs.Outcome.{in_room, answered, Demuxes}
 use Rattle.sp.specs.Written.{Written}
 use Rattle.sp.proofs.Theorems.{accepted_writes, packets_stand, room_decides}
 use Rattle.at_once.specs.Agreement.{OnePacket}
+use Rattle.std.specs.Prelude.{Result, Ok, Err}
+use Rattle.refusals.specs.declared.Refusal.{Refusal}
 
 -- one packet needs room for one
 pub one_said : (one : Reading) → total one ≡ 1 → (room : ℕ) → answered (in_room (answers one) room) ≡ demand (leb 1 room) 8 1 (answers 1)
@@ -45,9 +46,9 @@ one_left one r k is out out' counts counts' w =
 
 -- a call that reads one packet, where whatever it gives is packet k of the whole reading
 module _ (single whole : Said Reading) (k : ℕ) (given : (one : Reading) → single ≡ answers one → (r : Reading) × (whole ≡ answers r) × OnePacket one r k)
-    (out out' counts counts' : List ℕ) (answer : Demuxed) (d : Demuxes single out out' counts counts' answer) where
+    (out out' counts counts' : List ℕ) (answer : Result ℕ Refusal) (d : Demuxes single out out' counts counts' answer) where
   -- what it leaves where it answered
-  pub one_handed : (n : ℕ) → demuxed_says answer ≡ answers n
+  pub one_handed : (n : ℕ) → result_says answer ≡ answers n
       → (r : Reading) × (whole ≡ answers r) × (k < total r) × (n ≡ 1) × Leaves out 0 42 (λ i. get_or (packet_at r k) i 0) out'
       × Leaves counts 0 1 (λ i. file_count_at r k) counts'
   one_handed n e =
@@ -57,8 +58,8 @@ module _ (single whole : Said Reading) (k : ℕ) (given : (one : Reading) → si
       (g.0, g.1, g.2.there, sym w.2 ∙ g.2.alone, left.0, left.1)
 
   -- and that it is what the whole call left under that number
-  pub one_of_whole : {o o' c c' : List ℕ} {all : Demuxed} → Demuxes whole o o' c c' all → (m n : ℕ) → demuxed_says all ≡ answers m
-      → demuxed_says answer ≡ answers n
+  pub one_of_whole : {o o' c c' : List ℕ} {all : Result ℕ Refusal} → Demuxes whole o o' c c' all → (m n : ℕ) → result_says all ≡ answers m
+      → result_says answer ≡ answers n
       → (k < m) × ((i : ℕ) → i < 42 → get_or out' i 0 ≡ get_or o' (42 * k + i) 0) × (get_or counts' 0 0 ≡ get_or c' k 0)
   one_of_whole {o} {o'} {c} {c'} {all} all_read m n says e =
       let v = accepted_writes whole o o' c c' all all_read m says in

@@ -13,8 +13,6 @@ use Rattle.refusals.specs.Said.{answers}
 use Rattle.whole.specs.declared.Recording.{Recording}
 use Rattle.whole.specs.Admissions.{announced_by, stream_in}
 use Rattle.packets.specs.Walk.{Walk, reach, parity}
-use Rattle.sp.specs.declared.Demuxed.{Demuxed}
-use Rattle.sp.specs.declared.Demuxed.TheVariants.{Packets, Refused}
 use Rattle.sp.specs.Runs.{run_begin}
 use Rattle.sp.specs.Outcome.{room_in, Demuxes}
 use Rattle.sp.specs.Written.{Written}
@@ -24,6 +22,8 @@ use Rattle.sp.proofs.Written.{written_one}
 use Rattle.at_once.specs.Straight.{carried_to, read_of, straight, of_number}
 use Rattle.at_once.specs.Inner.{Ready}
 use Rattle.at_once.proofs.Straight.{one_alone}
+use Rattle.std.specs.Prelude.{Result, Ok, Err}
+use Rattle.refusals.specs.declared.Refusal.{Refusal}
 
 module _ (f : List ℕ) (rec : Recording) (k : ℕ) (out counts : List ℕ) where
   -- a run of the one read that the number says
@@ -39,20 +39,20 @@ module _ (f : List ℕ) (rec : Recording) (k : ℕ) (out counts : List ℕ) wher
       (subst (λ (w : Walk). RunWritten s (506 * rec.blocks) w 0 1 out out' counts counts' after) there r))
 
   -- the number is too high
-  pub beyond : (total : ℕ) → total ≡ announced_by f rec → total ≤ k → Demuxes (of_number f rec k) out out counts counts (Refused (numbered 18 total))
+  pub beyond : (total : ℕ) → total ≡ announced_by f rec → total ≤ k → Demuxes (of_number f rec k) out out counts counts (Err (numbered 18 total))
   beyond total is h = rw (le-ltb k (announced_by f rec) (omega (arith, is)), is) (passed_on (numbered 18 (announced_by f rec)) out counts)
 
   module _ (h : k < announced_by f rec) where
     -- an outcome of the one packet
-    of_packet : {out' counts' : List ℕ} {answer : Demuxed} → Demuxes (answers (straight f rec k)) out out' counts counts' answer
+    of_packet : {out' counts' : List ℕ} {answer : Result ℕ Refusal} → Demuxes (answers (straight f rec k)) out out' counts counts' answer
         → Demuxes (of_number f rec k) out out' counts counts' answer
     of_packet d = rw (lt-ltb k (announced_by f rec) h) d
 
-    pub packet_no_room : leb 1 (room_in out counts) ≡ false → Demuxes (of_number f rec k) out out counts counts (Refused (numbered 8 1))
+    pub packet_no_room : leb 1 (room_in out counts) ≡ false → Demuxes (of_number f rec k) out out counts counts (Err (numbered 8 1))
     packet_no_room none = of_packet (no_room (straight f rec k) out counts 1 (sym (one_alone f rec k)) none)
 
     pub packet_with_room : {out' counts' : List ℕ} → leb 1 (room_in out counts) ≡ true → Written (straight f rec k) out out' counts counts'
-        → Demuxes (of_number f rec k) out out' counts counts' (Packets 1)
+        → Demuxes (of_number f rec k) out out' counts counts' (Ok 1)
     packet_with_room fits w = of_packet (with_room (straight f rec k) out counts 1 (sym (one_alone f rec k)) _ _ fits w)
 
     pub is_ready : {total : ℕ} → Readable f rec → total ≡ announced_by f rec → total ≤ 255 * rec.blocks → leb 1 (room_in out counts) ≡ true

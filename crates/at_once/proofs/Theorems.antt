@@ -9,16 +9,15 @@ use lib.ListN.{get_or}
 use Rattle.tables.specs.Settled.{SettledAs}
 use Rattle.tables.specs.Lent.{Leaves}
 use Rattle.tables.proofs.Cases.{by_order}
-use Rattle.refusals.specs.declared.Refusal.{Refusal}
+use Rattle.refusals.specs.declared.Numbers.{Numbers}
 use Rattle.refusals.specs.Numbers.{numbered}
-use Rattle.refusals.specs.Said.{answers, refuses, refusal}
+use Rattle.refusals.specs.Said.{answers, refuses, refusal, result_says}
 use Rattle.refusals.proofs.Said.{not_both, for_the_answer, by_said, by_onward}
 use Rattle.detect.specs.declared.Kind.TheVariants.{Sp}
 use Rattle.whole.specs.Admissions.{announced_by, ds2_admission}
-use Rattle.sp.specs.declared.Demuxed.{Demuxed}
 use Rattle.sp.specs.ReadLists.{ds2_runs}
 use Rattle.sp.specs.Readings.{Reading, total, packet_at, file_count_at, reading_of, ds2_reading}
-use Rattle.sp.specs.Outcome.{room_in, demuxed_says, Demuxes}
+use Rattle.sp.specs.Outcome.{room_in, Demuxes}
 use Rattle.sp.proofs.ReadLists.{ds2_packets}
 use Rattle.sp.proofs.Outcome.{read_by_lem, refused_before, Seen, only_outcome}
 use Rattle.sp.proofs.Theorems.{ds2_announced}
@@ -28,6 +27,8 @@ use Rattle.at_once.proofs.Straight.{is_one_packet, below_total, not_below}
 use Rattle.at_once.proofs.One.{one_said, one_handed, one_of_whole}
 use Rattle.at_once.proofs.ds2_sp_packet.Kinds as packet
 use Rattle.at_once.proofs.ds2_sp_packet.Reads as packet-reads
+use Rattle.std.specs.Prelude.{Result, Ok, Err}
+use Rattle.refusals.specs.declared.Refusal.{Refusal}
 
 module _ (f : List ℕ) (k : ℕ) where
   module _ (r : Reading) (e : ds2_reading f ≡ answers r) where
@@ -51,7 +52,7 @@ module _ (f : List ℕ) (k : ℕ) where
         not_below f v.0 k v.1 (omega (arith, v.2)) ∙ ap (refuses 18) (sym v.2)
 
   -- And a file that is refused whole is refused so at every number.
-  pub refused_alike : (why : Refusal) → ds2_reading f ≡ refusal why → packet_reading f k ≡ refusal why
+  pub refused_alike : (why : Numbers) → ds2_reading f ≡ refusal why → packet_reading f k ≡ refusal why
   unfolding ds2_reading packet_reading
   refused_alike why e =
       by_onward (ds2_admission f Sp) (λ rec. answers (reading_of f rec ds2_runs)) e (λ first. rw first) (λ rec is then. absurd (not_both (sym then)))
@@ -66,9 +67,9 @@ module _ (f : List ℕ) (k : ℕ) where
       (λ h. absurd (not_both (sym (past_the_last r e h) ∙ is))))
       (λ why e. absurd (not_both (sym (refused_alike why e) ∙ is)))
 
-  module _ (out out' counts counts' : List ℕ) (answer : Demuxed) (d : Demuxes (packet_reading f k) out out' counts counts' answer) where
+  module _ (out out' counts counts' : List ℕ) (answer : Result ℕ Refusal) (d : Demuxes (packet_reading f k) out out' counts counts' answer) where
     -- What the call says is decided by what the whole reading says, then by the number, and then by the room.
-    pub packet_said : demuxed_says answer ≡ said_at (ds2_reading f) k (room_in out counts)
+    pub packet_said : result_says answer ≡ said_at (ds2_reading f) k (room_in out counts)
     packet_said =
         d.answer_is
         ∙ by_said (ds2_reading f)
@@ -82,14 +83,14 @@ module _ (f : List ℕ) (k : ℕ) where
 
     -- An answered call has put the packet of that number of the whole reading over the first 42 bytes of the output, and its file-byte count into
     -- the first entry of the table. Every other place of both is as it was, and so are the lengths.
-    pub packet_handed : (n : ℕ) → demuxed_says answer ≡ answers n
+    pub packet_handed : (n : ℕ) → result_says answer ≡ answers n
         → (r : Reading) × (ds2_reading f ≡ answers r) × (k < total r) × (n ≡ 1) × Leaves out 0 42 (λ i. get_or (packet_at r k) i 0) out'
         × Leaves counts 0 1 (λ i. file_count_at r k) counts'
     packet_handed = one_handed (packet_reading f k) (ds2_reading f) k given_at_once out out' counts counts' answer d
 
     -- And where the whole call has answered too, for the same file, the packet and its count are those that it put under that number.
-    pub same_as_whole : {o o' c c' : List ℕ} {whole : Demuxed} → Demuxes (ds2_reading f) o o' c c' whole → (m n : ℕ) → demuxed_says whole ≡ answers m
-        → demuxed_says answer ≡ answers n
+    pub same_as_whole : {o o' c c' : List ℕ} {whole : Result ℕ Refusal} → Demuxes (ds2_reading f) o o' c c' whole → (m n : ℕ) → result_says whole ≡ answers m
+        → result_says answer ≡ answers n
         → (k < m) × ((i : ℕ) → i < 42 → get_or out' i 0 ≡ get_or o' (42 * k + i) 0) × (get_or counts' 0 0 ≡ get_or c' k 0)
     same_as_whole all m n says e = one_of_whole (packet_reading f k) (ds2_reading f) k given_at_once out out' counts counts' answer d all m n says e
 

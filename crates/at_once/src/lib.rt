@@ -15,8 +15,8 @@ ghost use Rattle.at_once.specs.Inner.{Ready};
 use blocks::StreamPlace;
 use detect::Kind;
 use refusals::Refusal;
-use sp::{Demuxed, Run};
-use whole::{Admission, Recording};
+use sp::Run;
+use whole::Recording;
 
 // What is carried to the packet of this number, where the first has this parity: nothing to the first, and else the byte two places before its
 // read.
@@ -27,10 +27,8 @@ fn carried_to(file: &[u8], recording: Recording, first: bool, number: usize) -> 
     if number == 0 {
         return 0;
     }
-    let start = recording.start;
-    let blocks = recording.blocks;
     let before = packets::reach(first, number) - 2;
-    blocks::byte_or_zero(file, start, blocks, StreamPlace(before))
+    blocks::byte_or_zero(file, recording.start, recording.blocks, StreamPlace(before))
 }
 
 // Hands out the packet of this number, which there is, and for which there is room: a run of one read.
@@ -38,14 +36,11 @@ fn hand_out(file: &[u8], recording: Recording, number: usize, out: &mut [u8], co
     requires { Ready file.now recording number out.old counts.old }
     ensures { Written (straight file.now recording number) out.old out.new counts.old counts.new }
 {
-    let start = recording.start;
-    let first = blocks::swap_flag(file, start, 0);
-    let place = packets::reach(first, number);
-    let swap = packets::parity(first, number);
+    let first = blocks::swap_flag(file, recording.start, 0);
     let carry = carried_to(file, recording, first, number);
     let run = Run {
-        start: StreamPlace(place),
-        swap,
+        start: StreamPlace(packets::reach(first, number)),
+        swap: packets::parity(first, number),
         count: 1,
     };
     sp::write_run(file, recording, run, carry, 0, out, counts);
@@ -58,28 +53,30 @@ fn read(
     number: usize,
     out: &mut [u8],
     counts: &mut [u8],
-) -> Demuxed
+) -> Result<usize, Refusal>
     requires { Readable file.now recording }
     ensures { Demuxes (of_number file.now recording number) out.old out.new counts.old counts.new result }
 {
     let total = recording.announced(file);
     if total <= number {
-        return Demuxed::Refused(Refusal::beyond(total));
+        return Err(Refusal::Beyond(total));
     }
     if !sp::has_room(1, out.len(), counts.len()) {
-        return Demuxed::Refused(Refusal::room(1));
+        return Err(Refusal::Room(1));
     }
     hand_out(file, recording, number, out, counts);
-    Demuxed::Packets(1)
+    Ok(1)
 }
 
 // The packet of this number of a DS2 SP file and its file-byte count, or a refusal that changes nothing.
-pub fn ds2_sp_packet(file: &[u8], number: usize, out: &mut [u8], counts: &mut [u8]) -> Demuxed
+pub fn ds2_sp_packet(
+    file: &[u8],
+    number: usize,
+    out: &mut [u8],
+    counts: &mut [u8],
+) -> Result<usize, Refusal>
     ensures { Demuxes (packet_reading file.now number) out.old out.new counts.old counts.new result }
 {
-    let asked = whole::admit_ds2(file, Kind::Sp);
-    match asked {
-        Admission::Refused(why) => Demuxed::Refused(why),
-        Admission::Admitted(recording) => read(file, recording, number, out, counts),
-    }
+    let recording = whole::admit_ds2(file, Kind::Sp)?;
+    read(file, recording, number, out, counts)
 }

@@ -16,11 +16,11 @@ pub const PAYLOAD: usize = 506;
 pub const LIMIT: usize = 268_435_456;
 
 // A place in the file.
-#[derive(Clone, Copy)]
+#[derive(Clone, Copy, Debug, PartialEq, Eq)]
 pub struct FilePlace(pub usize);
 
 // A place in the payload stream.
-#[derive(Clone, Copy)]
+#[derive(Clone, Copy, Debug, PartialEq, Eq)]
 pub struct StreamPlace(pub usize);
 
 // The one way from the stream to the file.
@@ -66,7 +66,7 @@ pub fn count_byte(file: &[u8], a: FilePlace, block: usize) -> usize
     requires { Whole file.now a.0 (block + 1) }
     ensures { (result ≡ count_of file.now a.0 block) × (result ≤ 255) }
 {
-    tables::wide(header_byte(file, a, block, 2))
+    usize::from(header_byte(file, a, block, 2))
 }
 
 // How many frames the first blocks announce.
@@ -75,10 +75,8 @@ pub fn announced(file: &[u8], a: FilePlace, blocks: usize) -> usize
     ensures { (result ≡ announced_in file.now a.0 blocks) × (result ≤ 255 * blocks) }
 {
     let mut sum: usize = 0;
-    let mut block = 0;
-    while block < blocks {
+    for block in 0..blocks {
         sum += count_byte(file, a, block);
-        block += 1;
     }
     sum
 }

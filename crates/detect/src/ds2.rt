@@ -3,7 +3,7 @@
 ghost use Rattle.std.specs.Prelude.{◌≡◌, ◌-◌, min, drop};
 ghost use Rattle.detect.specs.Header.{good_type, good_header};
 ghost use Rattle.detect.specs.Start.{scanned, audio_start};
-ghost use Rattle.detect.specs.Kinds.{format_type, kind_of, same_kind, read_as};
+ghost use Rattle.detect.specs.Kinds.{format_type, kind_of, read_as};
 
 use crate::Kind;
 use blocks::{BLOCK, FilePlace, HEADER};
@@ -14,58 +14,39 @@ const DS2_HEADER_SIZE: usize = 0x600;
 // Where the audio starts if the scan finds no good header.
 const NONE_GOOD_START: usize = 0x1000;
 
+#[tactic(auto, unfolding(crate::specs::Header::good_type))]
 fn is_good_type(byte: u8) -> bool
     ensures { result ≡ good_type byte }
 {
-    if byte < 4 {
-        return true;
-    }
-    if byte == 6 {
-        return true;
-    }
-    byte == 7
+    byte < 4 || byte == 6 || byte == 7
 }
 
 // Whether a block's header can be that of DS2 audio.
+#[tactic(auto, unfolding(crate::specs::Header::good_header))]
 pub fn is_ds2_audio_block_header(header: &[u8]) -> bool
     ensures { result ≡ good_header header.now }
 {
-    if header.len() < HEADER {
-        return false;
-    }
-    if header[0] != 0x0F {
-        return false;
-    }
-    if header[3] != 0xFF {
-        return false;
-    }
-    if header[5] != 0xFF {
-        return false;
-    }
-    if header[2] <= 0 {
-        return false;
-    }
-    is_good_type(header[4])
+    HEADER <= header.len()
+        && header[0] == 0x0F
+        && header[3] == 0xFF
+        && header[5] == 0xFF
+        && 0 < header[2]
+        && is_good_type(header[4])
 }
 
 // Whether a good header stands at a place of the file.
+#[tactic(auto, unfolding(crate::specs::Header::good_header))]
 fn is_good_at(file: &[u8], at: usize) -> bool
     ensures { result ≡ good_header (drop at file.now) }
 {
-    if file.len() < at {
-        return false;
-    }
-    is_ds2_audio_block_header(&file[at..])
+    at <= file.len() && is_ds2_audio_block_header(&file[at..])
 }
 
 // How far the scan goes.
 fn scan_end(long: usize) -> usize
     ensures { result ≡ min 0x10000 (long - 6) }
 {
-    if long < HEADER {
-        return 0;
-    }
-    tables::lesser(0x10000, long - HEADER)
+    long.saturating_sub(HEADER).min(0x10000)
 }
 
 // The scan stops at the first place with four good headers; else the best score wins.
@@ -113,49 +94,23 @@ pub fn detect_ds2_format_type(file: &[u8], header_size: FilePlace) -> u8
     ensures { result ≡ format_type file.now header_size.0 }
 {
     let blocks = blocks::whole_blocks(file.len(), header_size);
-    let mut block = 0;
-    while block < blocks {
+    for block in 0..blocks {
         if 0 < blocks::count_byte(file, header_size, block) {
             return blocks::header_byte(file, header_size, block, 4);
         }
-        block += 1;
     }
     0
 }
 
 // For the crates above. How a type is read.
+#[tactic(auto, unfolding(crate::specs::Kinds::kind_of))]
 pub fn kind_of(byte: u8) -> Kind
     ensures { result ≡ kind_of byte }
 {
-    if byte < 6 {
-        return Kind::Sp;
-    }
-    if byte == 7 {
-        return Kind::Qp7;
-    }
-    Kind::Qp
-}
-
-// Whether two kinds are the same.
-fn same_kind(one: Kind, other: Kind) -> bool
-    ensures { result ≡ same_kind one other }
-{
-    match one {
-        Kind::Sp => match other {
-            Kind::Sp => true,
-            Kind::Qp => false,
-            Kind::Qp7 => false,
-        },
-        Kind::Qp => match other {
-            Kind::Sp => false,
-            Kind::Qp => true,
-            Kind::Qp7 => false,
-        },
-        Kind::Qp7 => match other {
-            Kind::Sp => false,
-            Kind::Qp => false,
-            Kind::Qp7 => true,
-        },
+    match byte {
+        0..=5 => Kind::Sp,
+        7 => Kind::Qp7,
+        _ => Kind::Qp,
     }
 }
 
@@ -163,6 +118,5 @@ fn same_kind(one: Kind, other: Kind) -> bool
 pub fn is_read_as(byte: u8, kind: Kind) -> bool
     ensures { result ≡ read_as byte kind }
 {
-    let read = kind_of(byte);
-    same_kind(read, kind)
+    kind_of(byte) == kind
 }

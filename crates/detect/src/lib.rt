@@ -15,7 +15,7 @@ pub mod ds2;
 const TYPE_PLACE: usize = 0x604;
 
 // What a DS2 file's type says of its reading.
-#[derive(Clone, Copy)]
+#[derive(Clone, Copy, Debug, PartialEq, Eq)]
 pub enum Kind {
     Sp,
     Qp,
@@ -23,7 +23,7 @@ pub enum Kind {
 }
 
 // What detect_format reports.
-#[derive(Clone, Copy)]
+#[derive(Clone, Copy, Debug, PartialEq, Eq)]
 pub enum AudioFormat {
     None,
     DssSp,
@@ -34,16 +34,15 @@ pub enum AudioFormat {
 }
 
 // What a type is reported as.
+#[tactic(auto, unfolding(crate::specs::Kinds::format_of))]
 fn format_of(byte: u8) -> AudioFormat
     ensures { result ≡ format_of byte }
 {
-    if byte == 7 {
-        return AudioFormat::Ds2Qp7;
+    match byte {
+        7 => AudioFormat::Ds2Qp7,
+        6 => AudioFormat::Ds2Qp,
+        _ => AudioFormat::Ds2Sp,
     }
-    if byte == 6 {
-        return AudioFormat::Ds2Qp;
-    }
-    AudioFormat::Ds2Sp
 }
 
 fn ds2_format(file: &[u8]) -> AudioFormat
@@ -53,19 +52,18 @@ fn ds2_format(file: &[u8]) -> AudioFormat
         return AudioFormat::None;
     }
     let start = ds2::detect_ds2_audio_start(file);
-    let begin = start.0;
-    if file.len() <= begin + 4 {
+    if file.len() <= start.0 + 4 {
         return AudioFormat::None;
     }
     format_of(ds2::detect_ds2_format_type(file, start))
 }
 
 // The format of a file, by its first bytes and, for DS2, its first announcing block.
+#[tactic(auto, unfolding(crate::specs::Format::detected, crate::specs::Format::format_by))]
 pub fn detect_format(file: &[u8]) -> AudioFormat
     ensures { result ≡ detected file.now }
 {
-    let magic = magic::magic_of(file);
-    match magic {
+    match magic::magic_of(file) {
         Magic::Dss => AudioFormat::DssSp,
         Magic::Ds2 => ds2_format(file),
         Magic::Grundig => AudioFormat::GrundigSp,

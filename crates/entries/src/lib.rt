@@ -56,10 +56,10 @@ pub fn word_at(index: &[u8], at: usize) -> usize
     requires { at + 4 ≤ length index.now }
     ensures { (result ≡ word_at index.now at) × (result < 2 ^ 32) }
 {
-    let one = tables::wide(index[at]);
-    let two = tables::wide(index[at + 1]);
-    let three = tables::wide(index[at + 2]);
-    let four = tables::wide(index[at + 3]);
+    let one = usize::from(index[at]);
+    let two = usize::from(index[at + 1]);
+    let three = usize::from(index[at + 2]);
+    let four = usize::from(index[at + 3]);
     16_777_216 * one + 65_536 * two + 256 * three + four
 }
 
@@ -90,16 +90,10 @@ pub fn stands(entry: Entry, index: &[u8], at: usize) -> bool
     requires { Fits entry × (at ≤ 2 ^ 48) }
     ensures { result ≡ same (take 12 (drop at index.now)) (entry_bytes entry) }
 {
-    if index.len() < at + ENTRY {
-        return false;
-    }
-    if word_at(index, at) != entry.number {
-        return false;
-    }
-    if word_at(index, at + 4) != entry.first {
-        return false;
-    }
-    word_at(index, at + 8) == entry.place.0
+    at + ENTRY <= index.len()
+        && word_at(index, at) == entry.number
+        && word_at(index, at + 4) == entry.first
+        && word_at(index, at + 8) == entry.place.0
 }
 
 // The entry of a block, before which so many packets are announced.
@@ -108,12 +102,10 @@ fn entry_of(file: &[u8], a: FilePlace, block: usize, first: usize) -> Entry
     requires first { first ≡ announced_in file.now a.0 block }
     ensures { result ≡ entry_of file.now a.0 block }
 {
-    let run = sp::dss_run(file, a, block);
-    let place = run.start;
     Entry {
         number: block,
         first,
-        place,
+        place: sp::dss_run(file, a, block).start,
     }
 }
 
@@ -123,16 +115,12 @@ pub fn add_up(file: &[u8], recording: Recording) -> Totals
     ensures entries { (result.entries ≡ length (entries_by file.now recording)) × (result.entries ≤ 2 ^ 20) }
     ensures packets { result.packets ≡ announced_by file.now recording }
 {
-    let start = recording.start;
-    let blocks = recording.blocks;
     let mut entries: usize = 0;
     let mut packets: usize = 0;
-    let mut block = 0;
-    while block < blocks {
-        let count = blocks::count_byte(file, start, block);
-        entries += tables::lesser(1, count);
+    for block in 0..recording.blocks {
+        let count = blocks::count_byte(file, recording.start, block);
+        entries += count.min(1);
         packets += count;
-        block += 1;
     }
     Totals { entries, packets }
 }
@@ -143,22 +131,16 @@ pub fn put_entries(file: &[u8], recording: Recording, out: &mut [u8], front: usi
     requires room { entry_place front (length (entries_by file.now recording)) ≤ length out.old }
     ensures { Lays out.old front (entries_bytes (entries_by file.now recording)) out.new }
 {
-    let start = recording.start;
-    let blocks = recording.blocks;
     let mut at = front;
     let mut first: usize = 0;
-    let mut block = 0;
-    while block < blocks {
-        let count = blocks::count_byte(file, start, block);
+    for block in 0..recording.blocks {
+        let count = blocks::count_byte(file, recording.start, block);
         if count == 0 {
-            block += 1;
             continue;
         }
-        let entry = entry_of(file, start, block, first);
-        put_entry(out, at, entry);
+        put_entry(out, at, entry_of(file, recording.start, block, first));
         at += ENTRY;
         first += count;
-        block += 1;
     }
 }
 
@@ -167,24 +149,19 @@ pub fn first_wrong(file: &[u8], recording: Recording, index: &[u8], front: usize
     requires { Sound file.now recording × (front ≤ 2 ^ 32) }
     ensures { result ≡ first_wrong (entries_by file.now recording) (drop front index.now) }
 {
-    let start = recording.start;
-    let blocks = recording.blocks;
     let mut number: usize = 0;
     let mut first: usize = 0;
-    let mut block = 0;
-    while block < blocks {
-        let count = blocks::count_byte(file, start, block);
+    for block in 0..recording.blocks {
+        let count = blocks::count_byte(file, recording.start, block);
         if count == 0 {
-            block += 1;
             continue;
         }
-        let entry = entry_of(file, start, block, first);
+        let entry = entry_of(file, recording.start, block, first);
         if !stands(entry, index, front + ENTRY * number) {
             return number;
         }
         number += 1;
         first += count;
-        block += 1;
     }
     number
 }

@@ -10,9 +10,9 @@ use lib.ListN.{length, get_or, drop, length-drop}
 use lib.Dec.{ltb}
 use Rattle.tables.proofs.Cases.{by_order}
 use Rattle.blocks.specs.Headers.{Bytes}
-use Rattle.refusals.specs.declared.Refusal.{Refusal}
+use Rattle.refusals.specs.declared.Numbers.{Numbers}
 use Rattle.refusals.specs.Numbers.{numbered}
-use Rattle.refusals.specs.Said.{Said, answers, refusal}
+use Rattle.refusals.specs.Said.{Said, answers, refusal, result_says}
 use Rattle.refusals.proofs.Said.{by_said, not_both, passed, onward_refused, onward_answered, went_on, read_from}
 use Rattle.whole.specs.declared.Recording.{Recording}
 use Rattle.whole.specs.Admissions.{admission, Sound}
@@ -28,20 +28,20 @@ use Rattle.entries.proofs.Held.{entry_read}
 use Rattle.index.specs.Reading.{read_beside}
 use Rattle.index.specs.Outcome.{totals_of, totalled}
 use Rattle.index.proofs.Reading.{asked, was_held}
-use Rattle.finding.specs.declared.Found.{Found}
-use Rattle.finding.specs.declared.Found.TheVariants.{At, Refused}
-use Rattle.finding.specs.Finding.{last_in, found_in, found_beside, entry_found, found_says}
+use Rattle.finding.specs.Finding.{last_in, found_in, found_beside, entry_found}
 use Rattle.finding.specs.Agreement.{HasPacket}
 use Rattle.finding.specs.Inner.{first_at, Crosses, Searchable, Searched}
 use Rattle.finding.proofs.Last.{last_is, found_at, entries_rise, entries_some, first_begins}
+use Rattle.std.specs.Prelude.{Result, Ok, Err}
+use Rattle.refusals.specs.declared.Refusal.{Refusal}
 
 -- the ways of a search
 pub searched_past : (x : List ℕ) (front : ℕ) (totals : Totals) (p : ℕ) → totals.packets ≤ p
-    → Searched x front totals p (Refused (numbered 18 totals.packets))
+    → Searched x front totals p (Err (numbered 18 totals.packets))
 searched_past x front totals p h = record { past = λ l. refl; found = λ l. absurd (omega arith) }
 
 pub searched_at : (x : List ℕ) (front : ℕ) (totals : Totals) (p i : ℕ) (entry : Entry) → p < totals.packets → Crosses x front totals.entries p i
-    → entry ≡ entry_at x (entry_place front i) → Searched x front totals p (At entry)
+    → entry ≡ entry_at x (entry_place front i) → Searched x front totals p (Ok entry)
 searched_at x front totals p i entry h w is = record { past = λ l. absurd (omega arith); found = λ l. (i, w, ap answers is) }
 
 -- entries of a recording that stand in an index
@@ -85,7 +85,7 @@ module _ (f : List ℕ) (rec : Recording) (x : List ℕ) (front : ℕ) (sound : 
 
 -- what was held: a refusal is passed on, and an index that was accepted can be searched and has the entry
 module _ (f : List ℕ) (rec : Recording) (x : List ℕ) (p : ℕ) where
-  pub not_searched : (why : Refusal) → refusal why ≡ totalled (read_beside f rec x) → refusal why ≡ found_beside f rec x p
+  pub not_searched : (why : Numbers) → refusal why ≡ totalled (read_beside f rec x) → refusal why ≡ found_beside f rec x p
   not_searched why e =
       by_said (read_beside f rec x) (λ c is. absurd (not_both (e ∙ ap totalled is)))
       (λ other is. let same : refusal why ≡ refusal other = e ∙ ap totalled is in rw is (cc same))
@@ -96,7 +96,7 @@ module _ (f : List ℕ) (rec : Recording) (x : List ℕ) (p : ℕ) where
         let w = was_held x (contents_in f rec) totals e in
         subst (Searchable x 5) (sym w.0) (searchable f rec x 5 sound files w.2 w.3)
 
-    pub search_finds : (answer : Found) → Searched x 5 totals p answer → found_says answer ≡ found_beside f rec x p
+    pub search_finds : (answer : Result Entry Refusal) → Searched x 5 totals p answer → result_says answer ≡ found_beside f rec x p
     search_finds answer searched =
         let w = was_held x (contents_in f rec) totals e in
         let c = contents_in f rec in
@@ -123,7 +123,7 @@ found_has f rec x p entry e =
 
 -- what was admitted: a refusal is passed on, and with a recording it goes on so
 module _ (f x : List ℕ) (p : ℕ) where
-  pub not_found : (why : Refusal) → refusal why ≡ admission f true false → refusal why ≡ entry_found f x p
+  pub not_found : (why : Numbers) → refusal why ≡ admission f true false → refusal why ≡ entry_found f x p
   unfolding entry_found
   not_found why e = sym (onward_refused (λ rec. found_beside f rec x p) e)
 
@@ -132,6 +132,6 @@ module _ (f x : List ℕ) (p : ℕ) where
   is_found rec said e is = is ∙ sym (onward_answered (λ rec. found_beside f rec x p) e)
 
 -- an answer is read back from what it says
-pub found_back : (x : Found) → read_from At Refused (found_says x) ≡ x
-found_back (At entry) = refl
-found_back (Refused why) = refl
+pub found_back : (x : Result Entry Refusal) → read_from Ok Err (result_says x) ≡ x
+found_back (Ok entry) = refl
+found_back (Err why) = refl

@@ -12,16 +12,15 @@ use Rattle.tables.specs.Settled.{SettledAs, SettledResult}
 use Rattle.tables.specs.Lent.{Leaves}
 use Rattle.tables.proofs.Cases.{by_order}
 use Rattle.blocks.specs.Headers.{Bytes}
-use Rattle.refusals.specs.declared.Refusal.{Refusal}
+use Rattle.refusals.specs.declared.Numbers.{Numbers}
 use Rattle.refusals.specs.Numbers.{numbered}
-use Rattle.refusals.specs.Said.{Said, answers, refuses, refusal, demand, onward}
+use Rattle.refusals.specs.Said.{Said, answers, refuses, refusal, demand, onward, result_says}
 use Rattle.refusals.proofs.Said.{for_the_answer, by_said, by_onward, went_on, onward_refused, onward_answered, onward_twice, only_one, read_from}
 use Rattle.whole.specs.declared.Recording.{Recording}
 use Rattle.whole.specs.Admissions.{admission}
-use Rattle.sp.specs.declared.Demuxed.{Demuxed}
 use Rattle.sp.specs.ReadLists.{dss_runs}
 use Rattle.sp.specs.Readings.{Reading, total, packet_at, file_count_at, reading_of, dss_reading}
-use Rattle.sp.specs.Outcome.{room_in, in_room, answered, demuxed_says, Demuxes}
+use Rattle.sp.specs.Outcome.{room_in, in_room, answered, Demuxes}
 use Rattle.sp.proofs.Outcome.{refused_before, Seen, only_outcome}
 use Rattle.at_once.specs.Agreement.{OnePacket}
 use Rattle.at_once.proofs.One.{one_said, one_handed, one_of_whole}
@@ -30,8 +29,7 @@ use Rattle.entries.specs.Entries.{Contents}
 use Rattle.entries.specs.Index.{index_of}
 use Rattle.index.specs.Reading.{contents_of, read_beside, index_read}
 use Rattle.index.proofs.Theorems.{only_one_index, its_index_is_read, every_reading_has_one}
-use Rattle.finding.specs.declared.Found.TheVariants.{At, Refused}
-use Rattle.finding.specs.Finding.{last_in, found_in, found_beside, entry_found, found_says}
+use Rattle.finding.specs.Finding.{last_in, found_in, found_beside, entry_found}
 use Rattle.finding.specs.Packet.{stands_by, by_entry, packet_beside, packet_found}
 use Rattle.finding.specs.Agreement.{HasPacket, said_by}
 use Rattle.finding.proofs.Searching.{found_has, found_back}
@@ -40,6 +38,8 @@ use Rattle.finding.proofs.find_entry.Kinds as finds
 use Rattle.finding.proofs.find_entry.Reads as finds-reads
 use Rattle.finding.proofs.dss_packet.Kinds as packet
 use Rattle.finding.proofs.dss_packet.Reads as packet-reads
+use Rattle.std.specs.Prelude.{Result, Ok, Err}
+use Rattle.refusals.specs.declared.Refusal.{Refusal}
 
 module _ (f x : List ℕ) (p : ℕ) where
   -- Finding is reading the index, all of it, and then looking the number up: whatever reading is refused by, finding is, and 18 comes after that.
@@ -71,7 +71,7 @@ module _ (f x : List ℕ) (p : ℕ) where
       let found : found_beside f rec x p ≡ answers entry = sym (onward_answered (λ rec. found_beside f rec x p) (sym is)) ∙ e in
       onward_answered (λ rec. packet_beside f rec x p) (sym is) ∙ onward_answered (λ entry. answers (by_entry f rec p entry)) (sym found)
 
-  pub refused_alike : (why : Refusal) → entry_found f x p ≡ refusal why → packet_found f x p ≡ refusal why
+  pub refused_alike : (why : Numbers) → entry_found f x p ≡ refusal why → packet_found f x p ≡ refusal why
   unfolding entry_found packet_found
   refused_alike why e =
       by_onward (admission f true false) (λ rec. found_beside f rec x p) e (λ first. onward_refused (λ rec. packet_beside f rec x p) (sym first))
@@ -104,9 +104,9 @@ module _ (f x : List ℕ) (p : ℕ) where
         subst (λ (y : Reading). OnePacket y (reading_of f rec dss_runs) p) w.4 (is_one_packet f rec p w.1 has),
       )
 
-  module _ (out out' counts counts' : List ℕ) (answer : Demuxed) (d : Demuxes (packet_found f x p) out out' counts counts' answer) where
+  module _ (out out' counts counts' : List ℕ) (answer : Result ℕ Refusal) (d : Demuxes (packet_found f x p) out out' counts counts' answer) where
     -- What the call for a packet says is decided by what reading the index says, then by the number, and then by the room.
-    pub packet_said : demuxed_says answer ≡ said_by (index_read f x) p (room_in out counts)
+    pub packet_said : result_says answer ≡ said_by (index_read f x) p (room_in out counts)
     packet_said =
         d.answer_is
         ∙ by_said (index_read f x)
@@ -129,14 +129,14 @@ module _ (f x : List ℕ) (p : ℕ) where
 
     -- An answered call has put the packet of that number of the whole reading over the first 42 bytes of the output, and its file-byte count into
     -- the first entry of the table. Every other place of both is as it was, and so are the lengths.
-    pub packet_handed : (n : ℕ) → demuxed_says answer ≡ answers n
+    pub packet_handed : (n : ℕ) → result_says answer ≡ answers n
         → (r : Reading) × (dss_reading f ≡ answers r) × (p < total r) × (n ≡ 1) × Leaves out 0 42 (λ i. get_or (packet_at r p) i 0) out'
         × Leaves counts 0 1 (λ i. file_count_at r p) counts'
     packet_handed = one_handed (packet_found f x p) (dss_reading f) p packet_by_index out out' counts counts' answer d
 
     -- And where the whole call has answered too, for the same file, the packet and its count are those that it put under that number.
-    pub same_as_whole : {o o' c c' : List ℕ} {whole : Demuxed} → Demuxes (dss_reading f) o o' c c' whole → (m n : ℕ) → demuxed_says whole ≡ answers m
-        → demuxed_says answer ≡ answers n
+    pub same_as_whole : {o o' c c' : List ℕ} {whole : Result ℕ Refusal} → Demuxes (dss_reading f) o o' c c' whole → (m n : ℕ) → result_says whole ≡ answers m
+        → result_says answer ≡ answers n
         → (p < m) × ((i : ℕ) → i < 42 → get_or out' i 0 ≡ get_or o' (42 * p + i) 0) × (get_or counts' 0 0 ≡ get_or c' p 0)
     same_as_whole all m n says e = one_of_whole (packet_found f x p) (dss_reading f) p packet_by_index out out' counts counts' answer d all m n says e
 
@@ -174,7 +174,7 @@ module _ (f : List ℕ) (r : Reading) (p : ℕ) (e : dss_reading f ≡ answers r
 -- Two outcomes of `find_entry` that its contract allows for the same arguments are equal, and so of `dss_packet`: answer, output and counts. The
 -- contract is the one in the source, as the check reads it.
 pub find_entry_settled : SettledResult 2 finds.ps finds.r finds-reads.Post
-find_entry_settled κs a x y s t p q = only_one found_says (read_from At Refused) found_back x y _ p q
+find_entry_settled κs a x y s t p q = only_one result_says (read_from Ok Err) found_back x y _ p q
 
 pub dss_packet_settled : SettledAs 4 packet.ps packet.r (λ κs. Seen) (λ κs x s. (x, s.1.1.1.0.now, s.1.1.1.1.0.now)) packet-reads.Post
 dss_packet_settled κs a x y s t p q = only_outcome p q

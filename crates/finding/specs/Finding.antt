@@ -1,14 +1,13 @@
 -- The entry for a packet's number: of those that an index has, the last that begins at or before it. Refusal 18 after those of reading.
 -- Assumes nothing.
-use Rattle.std.specs.Prelude.{ℕ, List, [], ◌∷◌, true, false, cond, leb, ltb}
-use Rattle.refusals.specs.Said.{Said, answers, refusal, demand, onward}
+use Rattle.std.specs.Prelude.{ℕ, List, [], ◌∷◌, true, false, cond, leb, ltb, Result, Ok, Err}
+use Rattle.refusals.specs.Said.{Said, answers, refusal, demand, onward, result_says}
 use Rattle.whole.specs.declared.Recording.{Recording}
 use Rattle.whole.specs.Admissions.{admission}
 use Rattle.entries.specs.declared.Entry.{Entry}
 use Rattle.entries.specs.Entries.{entry_by, Contents}
 use Rattle.index.specs.Reading.{read_beside}
-use Rattle.finding.specs.declared.Found.{Found}
-use Rattle.finding.specs.declared.Found.TheVariants.{At, Refused}
+use Rattle.refusals.specs.declared.Refusal.{Refusal}
 
 -- the last of these entries that begins at or before packet p, or the one given where none does
 unfoldable pub last_upto : ℕ → Entry → List Entry → Entry
@@ -29,8 +28,3 @@ found_beside f rec x p = onward (read_beside f rec x) (found_in p)
 
 unfoldable pub entry_found : List ℕ → List ℕ → ℕ → Said Entry
 entry_found f x p = onward (admission f true false) (λ rec. found_beside f rec x p)
-
--- the code's answer, read so
-abbrev pub found_says : Found → Said Entry
-found_says (At entry) = answers entry
-found_says (Refused why) = refusal why

@@ -5,7 +5,7 @@
 
 ghost use Rattle.std.specs.Prelude.{◌≡◌, ◌+◌, ◌-◌, ◌≤◌, ◌<◌, ◌^◌, length};
 ghost use Rattle.blocks.specs.Places.{Whole};
-ghost use Rattle.refusals.specs.Said.{answers};
+ghost use Rattle.refusals.specs.Said.{answers, result_says};
 ghost use Rattle.whole.specs.Admissions.{stream_in, Sound};
 ghost use Rattle.packets.specs.Walk.{steps, reach};
 ghost use Rattle.sp.specs.Runs.{run_begin};
@@ -14,24 +14,17 @@ ghost use Rattle.sp.specs.Outcome.{Demuxes};
 ghost use Rattle.sp.specs.Written.{Written};
 ghost use Rattle.sp.specs.Inner.{Readable};
 ghost use Rattle.entries.specs.Inner.{entry_place};
-ghost use Rattle.finding.specs.Finding.{found_beside, entry_found, found_says};
+ghost use Rattle.finding.specs.Finding.{found_beside, entry_found};
 ghost use Rattle.finding.specs.Packet.{carried_into, by_entry, packet_beside, packet_found};
 ghost use Rattle.finding.specs.Agreement.{HasPacket};
 ghost use Rattle.finding.specs.Inner.{first_at, Crosses, Searchable, Searched, Ready};
 
 use blocks::StreamPlace;
 use entries::{ENTRY, Entry, Totals};
-use index::{FRONT, Read};
+use index::FRONT;
 use refusals::Refusal;
-use sp::{Demuxed, Run};
-use whole::{Admission, Recording};
-
-// The entry that was found, or why the call refuses.
-#[derive(Clone, Copy)]
-pub enum Found {
-    At(Entry),
-    Refused(Refusal),
-}
+use sp::Run;
+use whole::Recording;
 
 // For the crates above too. Of so many entries, which begin at a place of an index, one that begins at or before a packet and is followed by none or
 // by one that begins after it, by halving.
@@ -55,40 +48,32 @@ pub fn search(index: &[u8], front: usize, entries: usize, packet: usize) -> usiz
 }
 
 // For the crates above too. The entry for a packet, by an index that is its file's and whose entries begin at a place.
-pub fn look_up(index: &[u8], front: usize, totals: Totals, packet: usize) -> Found
+pub fn look_up(index: &[u8], front: usize, totals: Totals, packet: usize) -> Result<Entry, Refusal>
     requires { Searchable index.now front totals }
     ensures { Searched index.now front totals packet result }
 {
-    let entries = totals.entries;
-    let packets = totals.packets;
-    if packets <= packet {
-        return Found::Refused(Refusal::beyond(packets));
+    if totals.packets <= packet {
+        return Err(Refusal::Beyond(totals.packets));
     }
-    let number = search(index, front, entries, packet);
-    Found::At(entries::entry_at(index, front + ENTRY * number))
+    let number = search(index, front, totals.entries, packet);
+    Ok(entries::entry_at(index, front + ENTRY * number))
 }
 
 // The entry for a packet of a recording, by an index that is held to the recording first.
-fn find(file: &[u8], recording: Recording, index: &[u8], packet: usize) -> Found
+fn find(file: &[u8], recording: Recording, index: &[u8], packet: usize) -> Result<Entry, Refusal>
     requires { Sound file.now recording }
-    ensures { found_says result ≡ found_beside file.now recording index.now packet }
+    ensures { result_says result ≡ found_beside file.now recording index.now packet }
 {
-    let held = index::hold(file, recording, index);
-    match held {
-        Read::Refused(why) => Found::Refused(why),
-        Read::Accepted(totals) => look_up(index, FRONT, totals, packet),
-    }
+    let totals = index::hold(file, recording, index)?;
+    look_up(index, FRONT, totals, packet)
 }
 
 // The entry for a packet of a DSS file by its number, or why there is none.
-pub fn find_entry(file: &[u8], index: &[u8], packet: usize) -> Found
-    ensures { found_says result ≡ entry_found file.now index.now packet }
+pub fn find_entry(file: &[u8], index: &[u8], packet: usize) -> Result<Entry, Refusal>
+    ensures { result_says result ≡ entry_found file.now index.now packet }
 {
-    let asked = whole::admit(file, true, false);
-    match asked {
-        Admission::Refused(why) => Found::Refused(why),
-        Admission::Admitted(recording) => find(file, recording, index, packet),
-    }
+    let recording = whole::admit(file, true, false)?;
+    find(file, recording, index, packet)
 }
 
 // What a run carries on past so many of its reads, the last of which is unswapped: byte 40 of that one, which stands two places before the next read.
@@ -97,11 +82,13 @@ fn carried_by(file: &[u8], recording: Recording, run: Run, reads: usize) -> u8
     requires near { (run.start.0 ≤ 2 ^ 48) × (reads ≤ 255) × (0 < reads) }
     ensures { result ≡ stream_in file.now recording (run.start.0 + reach run.swap reads - 2) }
 {
-    let start = recording.start;
-    let blocks = recording.blocks;
-    let begin = run.start.0;
-    let next = begin + packets::reach(run.swap, reads);
-    blocks::byte_or_zero(file, start, blocks, StreamPlace(next - 2))
+    let next = run.start.0 + packets::reach(run.swap, reads);
+    blocks::byte_or_zero(
+        file,
+        recording.start,
+        recording.blocks,
+        StreamPlace(next - 2),
+    )
 }
 
 // What the blocks before a block carry on to it: from the last of them that has an unswapped read, and 0 if none has.
@@ -109,11 +96,8 @@ fn carried_into(file: &[u8], recording: Recording, block: usize) -> u8
     requires { Readable file.now recording × (block ≤ recording.blocks) }
     ensures { result ≡ carried_into file.now recording block }
 {
-    let start = recording.start;
-    let mut before = block;
-    while 0 < before {
-        before -= 1;
-        let run = sp::dss_run(file, start, before);
+    for before in (0..block).rev() {
+        let run = sp::dss_run(file, recording.start, before);
         let reads = packets::upto_unswapped(run.swap, run.count);
         if 0 < reads {
             return carried_by(file, recording, run, reads);
@@ -127,8 +111,7 @@ fn carried_to(file: &[u8], recording: Recording, block: usize, k: usize) -> u8
     requires { Readable file.now recording × (block < recording.blocks) × (k ≤ 255) }
     ensures { result ≡ (steps (stream_in file.now recording) (run_begin (carried_into file.now recording block) (dss_run file.now recording.start.0 block)) k).carry }
 {
-    let start = recording.start;
-    let run = sp::dss_run(file, start, block);
+    let run = sp::dss_run(file, recording.start, block);
     let reads = packets::upto_unswapped(run.swap, k);
     if 0 < reads {
         return carried_by(file, recording, run, reads);
@@ -148,17 +131,13 @@ fn hand_out(
     requires { Ready file.now recording entry packet out.old counts.old }
     ensures { Written (by_entry file.now recording packet entry) out.old out.new counts.old counts.new }
 {
-    let start = recording.start;
     let block = entry.number;
-    let begin = entry.place.0;
     let k = packet - entry.first;
-    let flag = blocks::swap_flag(file, start, block);
-    let place = begin + packets::reach(flag, k);
-    let swap = packets::parity(flag, k);
+    let flag = blocks::swap_flag(file, recording.start, block);
     let carry = carried_to(file, recording, block, k);
     let run = Run {
-        start: StreamPlace(place),
-        swap,
+        start: StreamPlace(entry.place.0 + packets::reach(flag, k)),
+        swap: packets::parity(flag, k),
         count: 1,
     };
     sp::write_run(file, recording, run, carry, 0, out, counts);
@@ -172,15 +151,15 @@ fn deliver(
     packet: usize,
     out: &mut [u8],
     counts: &mut [u8],
-) -> Demuxed
+) -> Result<usize, Refusal>
     requires { Readable file.now recording × HasPacket file.now recording packet entry }
     ensures { Demuxes (answers (by_entry file.now recording packet entry)) out.old out.new counts.old counts.new result }
 {
     if !sp::has_room(1, out.len(), counts.len()) {
-        return Demuxed::Refused(Refusal::room(1));
+        return Err(Refusal::Room(1));
     }
     hand_out(file, recording, entry, packet, out, counts);
-    Demuxed::Packets(1)
+    Ok(1)
 }
 
 // Hands out a recording's packet of this number by an index, which is held to the recording first.
@@ -191,15 +170,12 @@ fn read(
     packet: usize,
     out: &mut [u8],
     counts: &mut [u8],
-) -> Demuxed
+) -> Result<usize, Refusal>
     requires { Sound file.now recording }
     ensures { Demuxes (packet_beside file.now recording index.now packet) out.old out.new counts.old counts.new result }
 {
-    let found = find(file, recording, index, packet);
-    match found {
-        Found::Refused(why) => Demuxed::Refused(why),
-        Found::At(entry) => deliver(file, recording, entry, packet, out, counts),
-    }
+    let entry = find(file, recording, index, packet)?;
+    deliver(file, recording, entry, packet, out, counts)
 }
 
 // The packet of this number of a DSS file by its index, and its file-byte count, or a refusal that changes nothing.
@@ -209,12 +185,9 @@ pub fn dss_packet(
     packet: usize,
     out: &mut [u8],
     counts: &mut [u8],
-) -> Demuxed
+) -> Result<usize, Refusal>
     ensures { Demuxes (packet_found file.now index.now packet) out.old out.new counts.old counts.new result }
 {
-    let asked = whole::admit(file, true, false);
-    match asked {
-        Admission::Refused(why) => Demuxed::Refused(why),
-        Admission::Admitted(recording) => read(file, recording, index, packet, out, counts),
-    }
+    let recording = whole::admit(file, true, false)?;
+    read(file, recording, index, packet, out, counts)
 }

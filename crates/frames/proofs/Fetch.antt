@@ -15,7 +15,7 @@ use Rattle.tables.proofs.Parts.{part_is}
 use Rattle.tables.proofs.Tests.{both_hold}
 use Rattle.blocks.specs.Places.{file_of, stream_at}
 use Rattle.blocks.proofs.Stream.{together}
-use Rattle.refusals.specs.declared.Refusal.{Refusal}
+use Rattle.refusals.specs.declared.Numbers.{Numbers}
 use Rattle.refusals.specs.Said.{Said, answers, refuses, demand, refusal}
 use Rattle.refusals.proofs.Said.{passed, went_on}
 use Rattle.whole.specs.declared.Recording.{Recording}
@@ -65,7 +65,7 @@ module _ (rec : Recording) (q size : ℕ) where
 
 -- the ways of a request
 module _ (f : List ℕ) (q size room : ℕ) where
-  pub fetch_refused : {why : Refusal} → refusal why ≡ admission f false true → refusal why ≡ fetch_from f q size room
+  pub fetch_refused : {why : Numbers} → refusal why ≡ admission f false true → refusal why ≡ fetch_from f q size room
   unfolding fetch_from
   fetch_refused e = rw (← e)
 
@@ -104,7 +104,7 @@ module _ (f : List ℕ) (q size room : ℕ) where
       (c.most, omega (arith, c.whole, c.some, c.there))
 
   -- what is said of its stand
-  pub stand_refused : {why : Refusal} → refusal why ≡ fetch_from f q size room
+  pub stand_refused : {why : Numbers} → refusal why ≡ fetch_from f q size room
       → refusal why ≡ standing (fetch_from f q size room) q size
   unfolding standing
   stand_refused e = rw (← e)
@@ -116,12 +116,12 @@ module _ (f : List ℕ) (q size room : ℕ) where
 
 -- what the two calls do with a scratch
 module _ (f : List ℕ) (q size : ℕ) (scratch : List ℕ) where
-  pub fill_refused : (why : Refusal) → refusal why ≡ fetch_from f q size (length scratch)
+  pub fill_refused : (why : Numbers) → refusal why ≡ fetch_from f q size (length scratch)
       → Fills f q size scratch scratch (Refused why)
   unfolding filled
   fill_refused why e = record { answer_is = stand_refused f q size (length scratch) e; scratch_is = rw (← e) }
 
-  pub show_refused : {why : Refusal} → refusal why ≡ fetch_from f q size (length scratch)
+  pub show_refused : {why : Numbers} → refusal why ≡ fetch_from f q size (length scratch)
       → take 0 (drop 0 f) ≡ shown f q size scratch
   unfolding shown
   show_refused e = rw (← e)

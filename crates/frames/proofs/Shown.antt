@@ -15,7 +15,7 @@ use Rattle.tables.proofs.Lent.{over_long, over_in, over_leaves}
 use Rattle.blocks.specs.Places.{file_of, stream_at}
 use Rattle.blocks.specs.Stream.{joined}
 use Rattle.blocks.proofs.Stream.{stream_part, together}
-use Rattle.refusals.specs.declared.Refusal.{Refusal}
+use Rattle.refusals.specs.declared.Numbers.{Numbers}
 use Rattle.refusals.specs.Said.{answers, refusal}
 use Rattle.refusals.proofs.Said.{not_both}
 use Rattle.whole.specs.declared.Recording.{Recording}
@@ -81,7 +81,7 @@ module _ (f : List ℕ) (q size : ℕ) (scratch : List ℕ) where
   unfolding filled
   filled_as rec e = rw e
 
-  filled_not : (why : Refusal) → fetch_from f q size (length scratch) ≡ refusal why → filled f q size scratch ≡ scratch
+  filled_not : (why : Numbers) → fetch_from f q size (length scratch) ≡ refusal why → filled f q size scratch ≡ scratch
   unfolding filled
   filled_not why e = rw e
 
@@ -89,12 +89,12 @@ module _ (f : List ℕ) (q size : ℕ) (scratch : List ℕ) where
   unfolding shown
   shown_as rec e = rw e
 
-  pub shown_not : (why : Refusal) → fetch_from f q size (length scratch) ≡ refusal why → shown f q size scratch ≡ []
+  pub shown_not : (why : Numbers) → fetch_from f q size (length scratch) ≡ refusal why → shown f q size scratch ≡ []
   unfolding shown
   shown_not why e = rw e
 
   -- where the stand is a refusal, nothing is filled
-  pub stand_refuses : (why : Refusal) → standing (fetch_from f q size (length scratch)) q size ≡ refusal why → filled f q size scratch ≡ scratch
+  pub stand_refuses : (why : Numbers) → standing (fetch_from f q size (length scratch)) q size ≡ refusal why → filled f q size scratch ≡ scratch
   stand_refuses why e =
       by_said (fetch_from f q size (length scratch)) (λ rec said. absurd (not_both (sym e ∙ sym (stand_is f q size (length scratch) rec (sym said))))) (λ w said. filled_not w said)
 

@@ -10,7 +10,7 @@ use Rattle.tables.specs.Settled.{SettledResult, SettledAs}
 use Rattle.tables.specs.Table.{table}
 use Rattle.blocks.specs.Places.{stream_at}
 use Rattle.blocks.specs.Stream.{joined}
-use Rattle.refusals.specs.declared.Refusal.{Refusal}
+use Rattle.refusals.specs.declared.Numbers.{Numbers}
 use Rattle.refusals.specs.Said.{Said, answers, refusal}
 use Rattle.refusals.proofs.Said.{only_one}
 use Rattle.whole.specs.declared.Recording.{Recording}
@@ -51,8 +51,8 @@ shows_its_size f rec q size scratch taken =
 
 -- `show` shows an empty part exactly when it refuses.
 pub shows_nothing_exactly : (f : List ℕ) (q size : ℕ) (scratch : List ℕ)
-    → ((why : Refusal) → fetch_from f q size (length scratch) ≡ refusal why → shown f q size scratch ≡ [])
-    × (shown f q size scratch ≡ [] → (why : Refusal) × (fetch_from f q size (length scratch) ≡ refusal why))
+    → ((why : Numbers) → fetch_from f q size (length scratch) ≡ refusal why → shown f q size scratch ≡ [])
+    × (shown f q size scratch ≡ [] → (why : Numbers) × (fetch_from f q size (length scratch) ≡ refusal why))
 shows_nothing_exactly f q size scratch = (
   (λ why e. shown_not f q size scratch why e),
   (λ empty.
@@ -65,7 +65,7 @@ shows_nothing_exactly f q size scratch = (
 
 module _ (f : List ℕ) (q size : ℕ) (scratch scratch' : List ℕ) (answer : Fetched) (d : Fills f q size scratch scratch' answer) where
   -- A refused `fill` changes nothing.
-  pub refused_fill_changes_nothing : (why : Refusal) → fetched_says answer ≡ refusal why → scratch' ≡ scratch
+  pub refused_fill_changes_nothing : (why : Numbers) → fetched_says answer ≡ refusal why → scratch' ≡ scratch
   refused_fill_changes_nothing why e =
       d.scratch_is ∙ stand_refuses f q size scratch why (sym d.answer_is ∙ e)
 

@@ -1,13 +1,15 @@
 -- A frame on request, by two calls over a DS2 file of any type: the first fills the scratch where the frame crosses a block, the second
 -- shows a part of the file or of the scratch. Refusals 1, 2, 3 and 12, the same for both. Assumes nothing.
-use Rattle.std.specs.Prelude.{ℕ, ◌+◌, ◌*◌, ◌%◌, ◌≡◌, List, [], Bool, true, false, cond, ◌&&◌, length, take, drop, leb}
+use Rattle.std.specs.Prelude.{ℕ, ◌+◌, ◌*◌, ◌%◌, ◌≡◌, List, [], Bool, true, false, cond, ◌&&◌, length, take, drop, leb, Result, Ok, Err}
 use Rattle.tables.specs.Lent.{over}
 use Rattle.blocks.specs.Places.{file_of}
+use Rattle.refusals.specs.declared.Refusal.{Refusal}
+use Rattle.refusals.specs.Numbers.{numbers_of}
 use Rattle.refusals.specs.Said.{Said, answers, refusal, demand, onward}
 use Rattle.whole.specs.declared.Recording.{Recording}
 use Rattle.whole.specs.Admissions.{admission, stream_in}
 use Rattle.frames.specs.declared.Fetched.{Fetched}
-use Rattle.frames.specs.declared.Fetched.TheVariants.{InFile, InScratch, Refused}
+use Rattle.frames.specs.declared.Fetched.TheVariants.{InFile, InScratch}
 
 -- a frame can be fetched: its size is 1 to 56, it ends in the stream of so many blocks, and the scratch has room for 56 bytes
 unfoldable pub can_fetch : ℕ → ℕ → ℕ → ℕ → Bool
@@ -35,10 +37,13 @@ unfoldable pub standing : Said Recording → ℕ → ℕ → Said Stand
 standing said q size = onward said (λ rec. answers (stand_in rec q size))
 
 -- the code's answer, read so
-abbrev pub fetched_says : Fetched → Said Stand
-fetched_says (InFile place) = answers (in_file place.0)
-fetched_says InScratch = answers in_scratch
-fetched_says (Refused why) = refusal why
+abbrev pub stand_of : Fetched → Stand
+stand_of (InFile place) = in_file place.0
+stand_of InScratch = in_scratch
+
+abbrev pub fetched_says : Result Fetched Refusal → Said Stand
+fetched_says (Ok fetched) = answers (stand_of fetched)
+fetched_says (Err why) = refusal (numbers_of why)
 
 -- the scratch after the first call: its start holds the frame if that crosses a block, and nothing else is changed
 abbrev pub filled_from : List ℕ → Recording → ℕ → ℕ → List ℕ → List ℕ
@@ -64,6 +69,6 @@ unfoldable pub shown : List ℕ → ℕ → ℕ → List ℕ → List ℕ
 shown f q size scratch = shown_by f (fetch_from f q size (length scratch)) q size scratch
 
 -- the first call's outcome is the definition's: answer and scratch
-pub record Fills (f : List ℕ) (q size : ℕ) (scratch scratch' : List ℕ) (answer : Fetched) : Type 0 where
+pub record Fills (f : List ℕ) (q size : ℕ) (scratch scratch' : List ℕ) (answer : Result Fetched Refusal) : Type 0 where
   pub answer_is : fetched_says answer ≡ standing (fetch_from f q size (length scratch)) q size
   pub scratch_is : scratch' ≡ filled f q size scratch

@@ -6,16 +6,16 @@ ghost use Rattle.std.specs.Prelude.{◌≡◌, ◌+◌, ◌*◌, ◌<◌, ◌≤
 ghost use Rattle.tables.specs.Lent.{Leaves};
 ghost use Rattle.blocks.specs.Places.{Whole, file_of};
 ghost use Rattle.blocks.specs.Headers.{first_of};
-ghost use Rattle.refusals.specs.Said.{answers, demand};
-ghost use Rattle.whole.specs.Admissions.{admission_says, stream_in};
+ghost use Rattle.refusals.specs.Said.{answers, demand, result_says};
+ghost use Rattle.whole.specs.Admissions.{stream_in, Sound};
 ghost use Rattle.frames.specs.Start.{frames_start};
 ghost use Rattle.frames.specs.Frames.{frame_of};
-ghost use Rattle.frames.specs.Fetch.{can_fetch, fetch_from, is_inside, stand_in, standing, fetched_says, filled_from, shown_from, shown, Fills};
+ghost use Rattle.frames.specs.Fetch.{can_fetch, fetch_from, is_inside, stand_in, standing, fetched_says, stand_of, filled_from, shown_from, shown, Fills};
 ghost use Rattle.frames.specs.Inner.{Fetchable};
 
 use blocks::{FilePlace, PAYLOAD, StreamPlace};
 use refusals::Refusal;
-use whole::{Admission, Recording};
+use whole::Recording;
 
 // The size of a QP frame. A scratch must have as many bytes.
 pub const FRAME: usize = 56;
@@ -35,7 +35,6 @@ pub struct Found {
 pub enum Fetched {
     InFile(FilePlace),
     InScratch,
-    Refused(Refusal),
 }
 
 // For the crates above. Where the frames of a QP or QP7 block start, by its number and its byte 1. A file within the limit has under
@@ -44,12 +43,7 @@ pub fn frames_start(block: usize, byte1: usize) -> StreamPlace
     requires { (block ≤ 2 ^ 48) × (byte1 ≤ 255) }
     ensures { (result.0 ≡ frames_start block byte1) × (result.0 < 506 * (block + 1)) }
 {
-    let base = PAYLOAD * block;
-    let far = 2 * byte1;
-    if far < 6 {
-        return StreamPlace(base);
-    }
-    StreamPlace(base + (far - 6))
+    StreamPlace(PAYLOAD * block + (2 * byte1).saturating_sub(6))
 }
 
 // For the crates above. The same by the block's header.
@@ -57,7 +51,7 @@ pub fn block_start(file: &[u8], a: FilePlace, block: usize) -> StreamPlace
     requires { Whole file.now a.0 (block + 1) × (block ≤ 2 ^ 48) }
     ensures { (result.0 ≡ frames_start block (first_of file.now a.0 block)) × (result.0 < 506 * (block + 1)) }
 {
-    let byte1 = tables::wide(blocks::header_byte(file, a, block, 1));
+    let byte1 = usize::from(blocks::header_byte(file, a, block, 1));
     frames_start(block, byte1)
 }
 
@@ -89,7 +83,7 @@ pub fn frame(start: StreamPlace, long: usize, k: usize) -> Found
     }
     Found {
         place: StreamPlace(from + far),
-        size: tables::lesser(FRAME, left),
+        size: left.min(FRAME),
     }
 }
 
@@ -98,44 +92,37 @@ fn can_fetch(blocks: usize, place: StreamPlace, size: usize, room: usize) -> boo
     requires { blocks ≤ 524288 }
     ensures { result ≡ can_fetch blocks place.0 size room }
 {
-    let at = place.0;
     let end = PAYLOAD * blocks;
-    if size < 1 {
-        return false;
-    }
-    if FRAME < size {
-        return false;
-    }
-    if end < at {
-        return false;
-    }
-    if end - at < size {
-        return false;
-    }
-    FRAME <= room
+    1 <= size && size <= FRAME && place.0 <= end && size <= end - place.0 && FRAME <= room
 }
 
 // A recording, if the frame can be fetched from it.
-fn with_frame(recording: Recording, place: StreamPlace, size: usize, room: usize) -> Admission
+fn with_frame(
+    recording: Recording,
+    place: StreamPlace,
+    size: usize,
+    room: usize,
+) -> Result<Recording, Refusal>
     requires { recording.blocks ≤ 524288 }
-    ensures { admission_says result ≡ demand (can_fetch recording.blocks place.0 size room) 12 0 (answers recording) }
+    ensures { result_says result ≡ demand (can_fetch recording.blocks place.0 size room) 12 0 (answers recording) }
 {
-    let blocks = recording.blocks;
-    if can_fetch(blocks, place, size, room) {
-        return Admission::Admitted(recording);
+    if can_fetch(recording.blocks, place, size, room) {
+        return Ok(recording);
     }
-    Admission::Refused(Refusal::absent())
+    Err(Refusal::Absent)
 }
 
 // The recording that a frame is fetched from: the one place of the refusals.
-fn fetch_from(file: &[u8], place: StreamPlace, size: usize, room: usize) -> Admission
-    ensures { admission_says result ≡ fetch_from file.now place.0 size room }
+fn fetch_from(
+    file: &[u8],
+    place: StreamPlace,
+    size: usize,
+    room: usize,
+) -> Result<Recording, Refusal>
+    ensures { result_says result ≡ fetch_from file.now place.0 size room }
 {
-    let asked = whole::admit(file, false, true);
-    match asked {
-        Admission::Refused(why) => Admission::Refused(why),
-        Admission::Admitted(recording) => with_frame(recording, place, size, room),
-    }
+    let recording = whole::admit(file, false, true)?;
+    with_frame(recording, place, size, room)
 }
 
 // Whether a frame lies inside one block.
@@ -169,24 +156,25 @@ fn take_frame(
 // Where a frame stands that can be fetched.
 fn stand_in(recording: Recording, place: StreamPlace, size: usize) -> Fetched
     requires { (size ≤ 56) × (file_of recording.start.0 place.0 < 2 ^ 64) }
-    ensures { fetched_says result ≡ answers (stand_in recording place.0 size) }
+    ensures { stand_of result ≡ stand_in recording place.0 size }
 {
     if is_inside(place, size) {
-        let start = recording.start;
-        return Fetched::InFile(blocks::in_file(start, place));
+        return Fetched::InFile(blocks::in_file(recording.start, place));
     }
     Fetched::InScratch
 }
 
 // Where a frame stands, or why it cannot be fetched, if the scratch has so many bytes. Nothing is written.
-pub fn frame_place(file: &[u8], place: StreamPlace, size: usize, room: usize) -> Fetched
+pub fn frame_place(
+    file: &[u8],
+    place: StreamPlace,
+    size: usize,
+    room: usize,
+) -> Result<Fetched, Refusal>
     ensures { fetched_says result ≡ standing (fetch_from file.now place.0 size room) place.0 size }
 {
-    let asked = fetch_from(file, place, size, room);
-    match asked {
-        Admission::Refused(why) => Fetched::Refused(why),
-        Admission::Admitted(recording) => stand_in(recording, place, size),
-    }
+    let recording = fetch_from(file, place, size, room)?;
+    Ok(stand_in(recording, place, size))
 }
 
 // Fills the scratch with a frame that can be fetched, if the frame crosses a block.
@@ -198,7 +186,7 @@ fn fill_from(
     scratch: &mut [u8],
 ) -> Fetched
     requires { Fetchable file.now recording place.0 size (length scratch.old) }
-    ensures stand { fetched_says result ≡ answers (stand_in recording place.0 size) }
+    ensures stand { stand_of result ≡ stand_in recording place.0 size }
     ensures bytes { scratch.new ≡ filled_from file.now recording place.0 size scratch.old }
 {
     if !is_inside(place, size) {
@@ -208,14 +196,16 @@ fn fill_from(
 }
 
 // The first of the two calls that fetch a frame: fills the scratch if the frame crosses a block.
-pub fn fill(file: &[u8], place: StreamPlace, size: usize, scratch: &mut [u8]) -> Fetched
+pub fn fill(
+    file: &[u8],
+    place: StreamPlace,
+    size: usize,
+    scratch: &mut [u8],
+) -> Result<Fetched, Refusal>
     ensures { Fills file.now place.0 size scratch.old scratch.new result }
 {
-    let asked = fetch_from(file, place, size, scratch.len());
-    match asked {
-        Admission::Refused(why) => Fetched::Refused(why),
-        Admission::Admitted(recording) => fill_from(file, recording, place, size, scratch),
-    }
+    let recording = fetch_from(file, place, size, scratch.len())?;
+    Ok(fill_from(file, recording, place, size, scratch))
 }
 
 // Shows a frame that can be fetched: the file's own bytes, or the scratch's start.
@@ -230,11 +220,8 @@ fn show_from<'a>(
     ensures { result.now ≡ shown_from file.now recording place.0 size scratch.now }
 {
     if is_inside(place, size) {
-        let start = recording.start;
-        let first = blocks::in_file(start, place);
-        let from = first.0;
-        let to = from + size;
-        return &file[from..to];
+        let from = blocks::in_file(recording.start, place).0;
+        return &file[from..from + size];
     }
     &scratch[0..size]
 }
@@ -243,9 +230,8 @@ fn show_from<'a>(
 pub fn show<'a>(file: &'a [u8], place: StreamPlace, size: usize, scratch: &'a [u8]) -> &'a [u8]
     ensures { result.now ≡ shown file.now place.0 size scratch.now }
 {
-    let asked = fetch_from(file, place, size, scratch.len());
-    let Admission::Admitted(recording) = asked else {
-        return &file[0..0];
-    };
-    show_from(file, recording, place, size, scratch)
+    match fetch_from(file, place, size, scratch.len()) {
+        Ok(recording) => show_from(file, recording, place, size, scratch),
+        Err(_) => &[],
+    }
 }

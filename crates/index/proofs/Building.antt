@@ -9,9 +9,9 @@ use borrow.Author.Tests.{le-leb, lt-leb}
 use lib.ListN.{length, set}
 use lib.Dec.{leb}
 use Rattle.tables.proofs.Lent.{leaves_one, leaves_as, leaves_over}
-use Rattle.refusals.specs.declared.Refusal.{Refusal}
+use Rattle.refusals.specs.declared.Numbers.{Numbers}
 use Rattle.refusals.specs.Numbers.{numbered}
-use Rattle.refusals.specs.Said.{answers, refusal}
+use Rattle.refusals.specs.Said.{answers, refusal, result_says}
 use Rattle.refusals.proofs.Said.{read_from}
 use Rattle.whole.specs.declared.Recording.{Recording}
 use Rattle.whole.specs.Admissions.{admission}
@@ -20,10 +20,10 @@ use Rattle.entries.specs.Entries.{Contents, contents_in}
 use Rattle.entries.specs.Index.{front_bytes, entries_bytes, edition1, size_of}
 use Rattle.entries.specs.Inner.{Lays}
 use Rattle.entries.proofs.Laying.{index_long, lays_join}
-use Rattle.index.specs.declared.Built.{Built}
-use Rattle.index.specs.declared.Built.TheVariants as built
 use Rattle.index.specs.Reading.{contents_of}
-use Rattle.index.specs.Outcome.{in_room, built_says, Builds}
+use Rattle.index.specs.Outcome.{in_room, Builds}
+use Rattle.std.specs.Prelude.{Result, Ok, Err}
+use Rattle.refusals.specs.declared.Refusal.{Refusal}
 
 -- the front: the length, and the version
 pub front_laid : (d e : List ℕ) (entries : ℕ) → 5 ≤ length d → Lays d 0 (word32 (1 + 12 * entries)) e → Lays d 0 (front_bytes edition1 entries) (set e 4 1)
@@ -35,7 +35,7 @@ module _ (c : Contents) (out : List ℕ) (entries : ℕ) (is : entries ≡ lengt
   bytes_are : 5 + 12 * entries ≡ size_of c
   bytes_are = omega (arith, index_long edition1 c.entries, is)
 
-  pub no_room : length out < 5 + 12 * entries → Builds (answers c) out out (built.Refused (numbered 8 (5 + 12 * entries)))
+  pub no_room : length out < 5 + 12 * entries → Builds (answers c) out out (Err (numbered 8 (5 + 12 * entries)))
   unfolding in_room
   no_room h =
       let full : leb (size_of c) (length out) ≡ false = lt-leb (size_of c) (length out) (omega (arith, bytes_are)) in
@@ -43,7 +43,7 @@ module _ (c : Contents) (out : List ℕ) (entries : ℕ) (is : entries ≡ lengt
 
   pub with_room : (out₁ out₂ : List ℕ) → 5 + 12 * entries ≤ length out → Lays out 0 (front_bytes edition1 entries) out₁
       → Lays out₁ 5 (entries_bytes c.entries) out₂
-      → Builds (answers c) out out₂ (built.Index (record { bytes = 5 + 12 * entries; entries = entries }))
+      → Builds (answers c) out out₂ (Ok (record { bytes = 5 + 12 * entries; entries = entries }))
   unfolding in_room
   with_room out₁ out₂ h front rest =
       let fits : leb (size_of c) (length out) ≡ true = le-leb (size_of c) (length out) (omega (arith, bytes_are)) in
@@ -57,16 +57,16 @@ module _ (c : Contents) (out : List ℕ) (entries : ℕ) (is : entries ≡ lengt
 
 -- what was admitted: a refusal is passed on, and of a recording the index is built
 module _ (f out : List ℕ) where
-  pub not_taken : (why : Refusal) → refusal why ≡ admission f true false → Builds (contents_of f) out out (built.Refused why)
+  pub not_taken : (why : Numbers) → refusal why ≡ admission f true false → Builds (contents_of f) out out (Err why)
   unfolding contents_of in_room
   not_taken why e = rw (← e) (record { answer_is = refl; out_is = refl })
 
-  pub taken : (rec : Recording) (out' : List ℕ) (answer : Built) → answers rec ≡ admission f true false
+  pub taken : (rec : Recording) (out' : List ℕ) (answer : Result Size Refusal) → answers rec ≡ admission f true false
       → Builds (answers (contents_in f rec)) out out' answer → Builds (contents_of f) out out' answer
   unfolding contents_of
   taken rec out' answer e b = rw (← e) b
 
 -- an answer is read back from what it says
-pub built_back : (x : Built) → read_from built.Index built.Refused (built_says x) ≡ x
-built_back (built.Index size) = refl
-built_back (built.Refused why) = refl
+pub built_back : (x : Result Size Refusal) → read_from Ok Err (result_says x) ≡ x
+built_back (Ok size) = refl
+built_back (Err why) = refl

@@ -8,9 +8,9 @@ use native.Mathlib.Omega.{arith}
 use borrow.Author.Tests.{eq-eqb, ne_eqb, eqb-true}
 use lib.ListN.{length, get_or, drop, length-drop}
 use lib.Dec.{eqb}
-use Rattle.refusals.specs.declared.Refusal.{Refusal}
+use Rattle.refusals.specs.declared.Numbers.{Numbers}
 use Rattle.refusals.specs.Numbers.{numbered}
-use Rattle.refusals.specs.Said.{Said, answers, refusal, demand}
+use Rattle.refusals.specs.Said.{Said, answers, refusal, demand, result_says}
 use Rattle.refusals.proofs.Said.{passed, onward_refused, onward_answered, went_on, read_from}
 use Rattle.whole.specs.declared.Recording.{Recording}
 use Rattle.whole.specs.Admissions.{admission}
@@ -20,11 +20,11 @@ use Rattle.entries.specs.Index.{entries_bytes}
 use Rattle.entries.specs.Held.{is_rest, first_wrong}
 use Rattle.entries.proofs.Laying.{entries_long}
 use Rattle.entries.proofs.Held.{same_is, same_if, same_not, wrong_not, all_right}
-use Rattle.index.specs.declared.Read.{Read}
-use Rattle.index.specs.declared.Read.TheVariants as read
 use Rattle.index.specs.Reading.{framed, held_to, read_to, read_beside, index_read}
-use Rattle.index.specs.Outcome.{totals_of, totalled, read_says}
+use Rattle.index.specs.Outcome.{totals_of, totalled}
 use Rattle.index.proofs.Framed.{framed_says}
+use Rattle.std.specs.Prelude.{Result, Ok, Err}
+use Rattle.refusals.specs.declared.Refusal.{Refusal}
 
 -- totals by their two numbers
 pub by_totals : (totals : Totals) (c : Contents) → totals.entries ≡ length c.entries → totals.packets ≡ c.total → totals ≡ totals_of c
@@ -84,7 +84,7 @@ was_held x c totals e =
 
 -- what was admitted: a refusal is passed on, and with a recording it goes on so
 module _ (f x : List ℕ) where
-  pub not_read : (why : Refusal) → refusal why ≡ admission f true false → refusal why ≡ totalled (index_read f x)
+  pub not_read : (why : Numbers) → refusal why ≡ admission f true false → refusal why ≡ totalled (index_read f x)
   unfolding index_read
   not_read why e = sym (ap totalled (onward_refused (λ rec. read_beside f rec x) e))
 
@@ -94,6 +94,6 @@ module _ (f x : List ℕ) where
   is_read rec said e is = is ∙ sym (ap totalled (onward_answered (λ rec. read_beside f rec x) e))
 
 -- an answer is read back from what it says
-pub read_back : (x : Read) → read_from read.Accepted read.Refused (read_says x) ≡ x
-read_back (read.Accepted totals) = refl
-read_back (read.Refused why) = refl
+pub read_back : (x : Result Totals Refusal) → read_from Ok Err (result_says x) ≡ x
+read_back (Ok totals) = refl
+read_back (Err why) = refl

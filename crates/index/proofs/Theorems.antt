@@ -15,8 +15,8 @@ use Rattle.tables.specs.Entries.{in_turn, fronted}
 use Rattle.tables.proofs.Cases.{by_order, never}
 use Rattle.tables.proofs.Lent.{leaves_at, over_leaves}
 use Rattle.blocks.specs.Headers.{Bytes}
-use Rattle.refusals.specs.declared.Refusal.{Refusal}
-use Rattle.refusals.specs.Said.{Said, answers, refuses, refusal}
+use Rattle.refusals.specs.declared.Numbers.{Numbers}
+use Rattle.refusals.specs.Said.{Said, answers, refuses, refusal, result_says}
 use Rattle.refusals.proofs.Said.{not_both, for_the_answer, by_refusal, went_on, by_onward, onward_refused, onward_answered, only_one, read_from, asked_of}
 use Rattle.whole.specs.declared.Recording.{Recording}
 use Rattle.whole.specs.Admissions.{admission, Sound}
@@ -35,11 +35,8 @@ use Rattle.entries.proofs.Described.{entries_described}
 use Rattle.entries.proofs.Held.{same_is, same_if, part_is, all_long, all_right, wrong_leads}
 use Rattle.entries.proofs.Laying.{index_long}
 use Rattle.index.specs.declared.Size.{Size}
-use Rattle.index.specs.declared.Built.{Built}
-use Rattle.index.specs.declared.Built.TheVariants as built
-use Rattle.index.specs.declared.Read.TheVariants as read
 use Rattle.index.specs.Reading.{contents_of, framed, read_to, read_beside, index_read}
-use Rattle.index.specs.Outcome.{in_room, sized, out_after, built_says, read_says, Builds}
+use Rattle.index.specs.Outcome.{in_room, sized, out_after, Builds}
 use Rattle.index.specs.LaidOut.{LaidOut}
 use Rattle.index.specs.Unreadable.{FirstWrong, Unreadable}
 use Rattle.index.specs.Unreadable.Unreadable.{no_length, other_version, not_entries}
@@ -51,6 +48,8 @@ use Rattle.index.proofs.build_index.Kinds as builds
 use Rattle.index.proofs.build_index.Reads as builds-reads
 use Rattle.index.proofs.read_index.Kinds as reads
 use Rattle.index.proofs.read_index.Reads as reads-reads
+use Rattle.std.specs.Prelude.{Result, Ok, Err}
+use Rattle.refusals.specs.declared.Refusal.{Refusal}
 
 -- what an index of a file speaks of is the recording's
 spoken_of : (f : List ℕ) (c : Contents) → contents_of f ≡ answers c
@@ -101,7 +100,7 @@ every_reading_has_one f r e =
       sym (dss_packets f v.0.start.0 v.0.blocks) ∙ ap total v.2,
     )
 
-pub refused_alike : (f x : List ℕ) (why : Refusal) → dss_reading f ≡ refusal why → (contents_of f ≡ refusal why) × (index_read f x ≡ refusal why)
+pub refused_alike : (f x : List ℕ) (why : Numbers) → dss_reading f ≡ refusal why → (contents_of f ≡ refusal why) × (index_read f x ≡ refusal why)
 unfolding dss_reading contents_of index_read
 refused_alike f x why e =
     by_onward (admission f true false) (λ rec. answers (reading_of f rec dss_runs)) e
@@ -132,7 +131,7 @@ room_decides f c room e =
     )
 
 -- A file that is refused is refused so whatever room there is.
-pub refused_before_room : (f : List ℕ) (why : Refusal) (room : ℕ) → contents_of f ≡ refusal why → sized (in_room (contents_of f) room) ≡ refusal why
+pub refused_before_room : (f : List ℕ) (why : Numbers) (room : ℕ) → contents_of f ≡ refusal why → sized (in_room (contents_of f) room) ≡ refusal why
 unfolding in_room
 refused_before_room f why room e = rw e
 
@@ -154,12 +153,12 @@ first_wrong_lem entries rest other =
     }
 
 -- the same of a refusal
-abbrev Why : List ℕ → List Entry → Refusal → Type 0
+abbrev Why : List ℕ → List Entry → Numbers → Type 0
 Why x entries said = Unreadable x entries said.number said.beside
 
 -- Bytes that reading refuses for an admitted file are refused by 19, 20 or 21 with the number beside it, and for the reason which these stand for:
 -- 21 names the first entry that differs, is cut, is absent or is one too many.
-pub refused_why : (f x : List ℕ) (rec : Recording) (why : Refusal) → admission f true false ≡ answers rec → index_read f x ≡ refusal why
+pub refused_why : (f x : List ℕ) (rec : Recording) (why : Numbers) → admission f true false ≡ answers rec → index_read f x ≡ refusal why
     → Unreadable x (entries_by f rec) why.number why.beside
 unfolding index_read
 refused_why f x rec why is e = by_tests (sym (onward_answered (λ rec. read_beside f rec x) (sym is)) ∙ e)
@@ -178,16 +177,16 @@ refused_why f x rec why is e = by_tests (sym (onward_answered (λ rec. read_besi
         (λ other same. subst (Why x (entries_by f rec)) same (other_version (has_length x frame) (λ one. never (eq-eqb (get_or x 4 0) 1 one) other))))
         (λ none same. subst (Why x (entries_by f rec)) same (no_length (λ h. never (with_length x h) none)))
 
-module _ (f out out' : List ℕ) (answer : Built) (b : Builds (contents_of f) out out' answer) where
+module _ (f out out' : List ℕ) (answer : Result Size Refusal) (b : Builds (contents_of f) out out' answer) where
   -- A refused building changes nothing.
-  pub refused_changes_nothing : (why : Refusal) → built_says answer ≡ refusal why → out' ≡ out
+  pub refused_changes_nothing : (why : Numbers) → result_says answer ≡ refusal why → out' ≡ out
   refused_changes_nothing why e = b.out_is ∙ refused (in_room (contents_of f) (length out)) (sym b.answer_is ∙ e)
     where
       refused : (said : Said Contents) → sized said ≡ refusal why → out_after said out ≡ out
       refused (answers c) e = absurd (not_both (sym e))
       refused (refusal why) e = refl
 
-  module _ (size : Size) (e : built_says answer ≡ answers size) where
+  module _ (size : Size) (e : result_says answer ≡ answers size) where
     -- An accepted one leaves the index in front of the output, and every other byte, and the length, as it was; and its answer says how many bytes
     -- the index has, and how many entries.
     pub accepted_writes : (c : Contents) × (contents_of f ≡ answers c) × (size.bytes ≡ size_of c) × (size.entries ≡ length c.entries) × Leaves out 0 (size_of c) (λ i. get_or (index_of c) i 0) out'
@@ -235,18 +234,18 @@ module _ (f out out' : List ℕ) (answer : Built) (b : Builds (contents_of f) ou
 
 -- Two outcomes of `build_index` that its contract allows for the same arguments are equal: the answer and the output. The contract is the
 -- one in the source, as the check reads it. And so of `read_index`, which is lent nothing to write.
-pub only_built : {contents : Said Contents} {out out₁ out₂ : List ℕ} {one other : Built} → Builds contents out out₁ one → Builds contents out out₂ other
-    → ◌≡◌ {A = Built × List ℕ} (one, out₁) (other, out₂)
+pub only_built : {contents : Said Contents} {out out₁ out₂ : List ℕ} {one other : Result Size Refusal} → Builds contents out out₁ one → Builds contents out out₂ other
+    → ◌≡◌ {A = Result Size Refusal × List ℕ} (one, out₁) (other, out₂)
 only_built {contents} {out} {one = one} {other = other} p q =
     let answer : one ≡ other =
-    only_one built_says (read_from built.Index built.Refused) built_back one other (sized (in_room contents (length out))) p.answer_is q.answer_is in
+    only_one result_says (read_from Ok Err) built_back one other (sized (in_room contents (length out))) p.answer_is q.answer_is in
     cc (answer, p.out_is, q.out_is)
 
-pub build_index_settled : SettledAs 2 builds.ps builds.r (λ κs. Built × List ℕ) (λ κs x s. (x, s.1.0.now)) builds-reads.Post
+pub build_index_settled : SettledAs 2 builds.ps builds.r (λ κs. Result Size Refusal × List ℕ) (λ κs x s. (x, s.1.0.now)) builds-reads.Post
 build_index_settled κs a x y s t p q = only_built p q
 
 pub read_index_settled : SettledResult 2 reads.ps reads.r reads-reads.Post
-read_index_settled κs a x y s t p q = only_one read_says (read_from read.Accepted read.Refused) read_back x y _ p q
+read_index_settled κs a x y s t p q = only_one result_says (read_from Ok Err) read_back x y _ p q
 
 -- Where no block announces anything the index is 00 00 00 01 01. With one entry of the numbers 01020304, 05060708 and 090A0B0C, each as four bytes are
 -- written, it is 00 00 00 0D 01, and then those bytes in that order.

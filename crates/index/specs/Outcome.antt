@@ -1,16 +1,13 @@
 -- What building and reading an index answer, and what building leaves in the lent output. A refused call leaves it as it was.
 -- Assumes nothing.
-use Rattle.std.specs.Prelude.{ℕ, ◌≡◌, List, length, leb}
+use Rattle.std.specs.Prelude.{ℕ, ◌≡◌, List, length, leb, Result, Ok, Err}
 use Rattle.tables.specs.Entries.{fronted}
-use Rattle.refusals.specs.Said.{Said, answers, refusal, demand, onward}
+use Rattle.refusals.specs.Said.{Said, answers, refusal, demand, onward, result_says}
 use Rattle.entries.specs.declared.Totals.{Totals}
 use Rattle.entries.specs.Entries.{Contents}
 use Rattle.entries.specs.Index.{index_of, size_of}
 use Rattle.index.specs.declared.Size.{Size}
-use Rattle.index.specs.declared.Built.{Built}
-use Rattle.index.specs.declared.Built.TheVariants as built
-use Rattle.index.specs.declared.Read.{Read}
-use Rattle.index.specs.declared.Read.TheVariants as read
+use Rattle.refusals.specs.declared.Refusal.{Refusal}
 
 -- building asks for room for all bytes of the index
 unfoldable pub in_room : Said Contents → ℕ → Said Contents
@@ -32,16 +29,7 @@ totals_of c = record { entries = length c.entries; packets = c.total }
 abbrev pub totalled : Said Contents → Said Totals
 totalled said = onward said (λ c. answers (totals_of c))
 
--- the code's answers, read so
-abbrev pub built_says : Built → Said Size
-built_says (built.Index size) = answers size
-built_says (built.Refused why) = refusal why
-
-abbrev pub read_says : Read → Said Totals
-read_says (read.Accepted totals) = answers totals
-read_says (read.Refused why) = refusal why
-
 -- the outcome of building is the definition's: answer and output
-pub record Builds (contents : Said Contents) (out out' : List ℕ) (answer : Built) : Type 0 where
-  pub answer_is : built_says answer ≡ sized (in_room contents (length out))
+pub record Builds (contents : Said Contents) (out out' : List ℕ) (answer : Result Size Refusal) : Type 0 where
+  pub answer_is : result_says answer ≡ sized (in_room contents (length out))
   pub out_is : out' ≡ out_after (in_room contents (length out)) out

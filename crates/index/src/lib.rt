@@ -3,17 +3,17 @@
 #![tactic(auto)]
 
 ghost use Rattle.std.specs.Prelude.{◌≡◌, ◌≤◌, ◌^◌, length};
-ghost use Rattle.refusals.specs.Said.{answers};
+ghost use Rattle.refusals.specs.Said.{answers, result_says};
 ghost use Rattle.whole.specs.Admissions.{Sound};
 ghost use Rattle.entries.specs.Entries.{contents_in};
 ghost use Rattle.entries.specs.Index.{front_bytes, edition1};
 ghost use Rattle.entries.specs.Inner.{Lays};
 ghost use Rattle.index.specs.Reading.{contents_of, framed, read_beside, index_read};
-ghost use Rattle.index.specs.Outcome.{totalled, read_says, Builds};
+ghost use Rattle.index.specs.Outcome.{totalled, Builds};
 
 use entries::{ENTRY, Totals};
 use refusals::Refusal;
-use whole::{Admission, Recording};
+use whole::Recording;
 
 // The bytes of an index before its entries: its length, and its version.
 pub const FRONT: usize = 5;
@@ -27,20 +27,6 @@ pub struct Size {
     pub entries: usize,
 }
 
-// The size of the index that was built, or why the call refuses.
-#[derive(Clone, Copy)]
-pub enum Built {
-    Index(Size),
-    Refused(Refusal),
-}
-
-// The totals of an index that is its file's, or why the call refuses.
-#[derive(Clone, Copy)]
-pub enum Read {
-    Accepted(Totals),
-    Refused(Refusal),
-}
-
 // Puts what stands before so many entries: the length of all that follows it, and the version.
 fn put_front(out: &mut [u8], entries: usize)
     requires { (entries ≤ 2 ^ 20) × (5 ≤ length out.old) }
@@ -51,30 +37,26 @@ fn put_front(out: &mut [u8], entries: usize)
 }
 
 // Builds the index of a recording, if there is room for it.
-fn build(file: &[u8], recording: Recording, out: &mut [u8]) -> Built
+fn build(file: &[u8], recording: Recording, out: &mut [u8]) -> Result<Size, Refusal>
     requires { Sound file.now recording }
     ensures { Builds (answers (contents_in file.now recording)) out.old out.new result }
 {
-    let totals = entries::add_up(file, recording);
-    let entries = totals.entries;
+    let entries = entries::add_up(file, recording).entries;
     let bytes = FRONT + ENTRY * entries;
     if out.len() < bytes {
-        return Built::Refused(Refusal::room(bytes));
+        return Err(Refusal::Room(bytes));
     }
     put_front(out, entries);
     entries::put_entries(file, recording, out, FRONT);
-    Built::Index(Size { bytes, entries })
+    Ok(Size { bytes, entries })
 }
 
 // The index of a DSS file, over the front of the output, or a refusal that changes nothing.
-pub fn build_index(file: &[u8], out: &mut [u8]) -> Built
+pub fn build_index(file: &[u8], out: &mut [u8]) -> Result<Size, Refusal>
     ensures { Builds (contents_of file.now) out.old out.new result }
 {
-    let asked = whole::admit(file, true, false);
-    match asked {
-        Admission::Refused(why) => Built::Refused(why),
-        Admission::Admitted(recording) => build(file, recording, out),
-    }
+    let recording = whole::admit(file, true, false)?;
+    build(file, recording, out)
 }
 
 // Whether an index begins with a length, above 0, that is the number of bytes that follow it.
@@ -92,35 +74,32 @@ fn is_framed(index: &[u8]) -> bool
 }
 
 // For the crates above too. Holds an index to a recording.
-pub fn hold(file: &[u8], recording: Recording, index: &[u8]) -> Read
+pub fn hold(file: &[u8], recording: Recording, index: &[u8]) -> Result<Totals, Refusal>
     requires { Sound file.now recording }
-    ensures { read_says result ≡ totalled (read_beside file.now recording index.now) }
+    ensures { result_says result ≡ totalled (read_beside file.now recording index.now) }
 {
     if !is_framed(index) {
-        return Read::Refused(Refusal::index());
+        return Err(Refusal::Index);
     }
     let version = index[4];
     if version != VERSION {
-        return Read::Refused(Refusal::index_version(version));
+        return Err(Refusal::IndexVersion(version));
     }
     let totals = entries::add_up(file, recording);
     let wrong = entries::first_wrong(file, recording, index, FRONT);
     if wrong < totals.entries {
-        return Read::Refused(Refusal::index_entry(wrong));
+        return Err(Refusal::IndexEntry(wrong));
     }
     if index.len() != FRONT + ENTRY * totals.entries {
-        return Read::Refused(Refusal::index_entry(wrong));
+        return Err(Refusal::IndexEntry(wrong));
     }
-    Read::Accepted(totals)
+    Ok(totals)
 }
 
 // Reads an index with its DSS file lent: how many entries and packets there are, or why it is not the file's.
-pub fn read_index(file: &[u8], index: &[u8]) -> Read
-    ensures { read_says result ≡ totalled (index_read file.now index.now) }
+pub fn read_index(file: &[u8], index: &[u8]) -> Result<Totals, Refusal>
+    ensures { result_says result ≡ totalled (index_read file.now index.now) }
 {
-    let asked = whole::admit(file, true, false);
-    match asked {
-        Admission::Refused(why) => Read::Refused(why),
-        Admission::Admitted(recording) => hold(file, recording, index),
-    }
+    let recording = whole::admit(file, true, false)?;
+    hold(file, recording, index)
 }

@@ -5,9 +5,9 @@ use mathlib.Core.Path.{◌≡◌, sym, ap, ◌∙◌, subst}
 use mathlib.Core.List.{List}
 use lib.ListN.{get_or}
 use Rattle.tables.specs.Lent.{Leaves}
-use Rattle.refusals.specs.Said.{Said, answers}
+use Rattle.refusals.specs.Said.{Said, answers, result_says}
 use Rattle.sp.specs.Readings.{Reading, total, packet_at, file_count_at, ds2_reading}
-use Rattle.sp.specs.Outcome.{room_in, demuxed_says}
+use Rattle.sp.specs.Outcome.{room_in}
 use Rattle.at_once.specs.Straight.{packet_reading}
 use Rattle.at_once.specs.Agreement.{said_at}
 use Rattle.at_once.proofs.Theorems.{packet_said, packet_handed}
@@ -30,5 +30,5 @@ module _ (f : List ℕ) (k : ℕ) {out out' counts counts' : List ℕ} {r : Answ
       × Leaves out 0 42 (λ i. get_or (packet_at reading k) i 0) out' × Leaves counts 0 1 (λ i. file_count_at reading k) counts'
   told_packet none =
       let told = (packet_tells f k c).zero none in
-      let says : demuxed_says c.answer ≡ answers r.first = c.comes.answer_is ∙ told.1 ∙ ap answers (sym told.3) in
+      let says : result_says c.answer ≡ answers r.first = c.comes.answer_is ∙ told.1 ∙ ap answers (sym told.3) in
       packet_handed f k out out' counts counts' c.answer c.comes r.first says

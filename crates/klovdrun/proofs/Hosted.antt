@@ -3,10 +3,8 @@
 use Prim.Native.Nat.{ℕ, ◌<◌}
 use mathlib.Core.Path.{◌≡◌, sym, ap, ◌∙◌}
 use mathlib.Core.List.{List}
-use Rattle.refusals.specs.declared.Refusal.{Refusal}
-use Rattle.refusals.specs.Said.{Said, answers, refusal}
-use Rattle.sp.specs.declared.Demuxed.{Demuxed}
-use Rattle.sp.specs.Outcome.{demuxed_says}
+use Rattle.refusals.specs.declared.Numbers.{Numbers}
+use Rattle.refusals.specs.Said.{Said, answers, refusal, result_says}
 use Rattle.reader.specs.declared.Reader.{Reader}
 use Rattle.reader.specs.State.{State, Reached}
 use Rattle.reader.specs.Calls.{Steps}
@@ -15,14 +13,16 @@ use Rattle.reader.proofs.Laws.{at_state}
 use Rattle.numbers.specs.declared.Answer.{Answer}
 use Rattle.klovdrun.specs.Wrapped.{step_to, Advances, Tells}
 use Rattle.klovdrun.proofs.Theorems.{piece_tells, end_tells}
+use Rattle.std.specs.Prelude.{Result, Ok, Err}
+use Rattle.refusals.specs.declared.Refusal.{Refusal}
 
 -- a call whose numbers tell what it said: what its answer says, by them
-module _ {numbers : List ℕ} {second : ℕ → ℕ} {other : ℕ} {said : Said ℕ} {next : State} {stored : Reader} {answer : Demuxed} {r : Answer}
+module _ {numbers : List ℕ} {second : ℕ → ℕ} {other : ℕ} {said : Said ℕ} {next : State} {stored : Reader} {answer : Result ℕ Refusal} {r : Answer}
     (tells : Tells numbers (λ n. n) second other said r) (steps : Steps said next (step_to stored answer)) where
-  pub told_answer : r.refusal ≡ 0 → demuxed_says answer ≡ answers r.first
+  pub told_answer : r.refusal ≡ 0 → result_says answer ≡ answers r.first
   told_answer zero = let told = tells.zero zero in steps.answer_is ∙ told.1 ∙ ap answers (sym told.3)
 
-  told_refusal : 0 < r.refusal → (why : Refusal) × (demuxed_says answer ≡ refusal why) × (r.first ≡ 0)
+  told_refusal : 0 < r.refusal → (why : Numbers) × (result_says answer ≡ refusal why) × (r.first ≡ 0)
   told_refusal some = let told = tells.above some in (told.0, steps.answer_is ∙ told.1, told.4)
 
 -- a refused one is a refused call on the reader, and tells no packets

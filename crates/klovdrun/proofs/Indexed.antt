@@ -7,16 +7,16 @@ use mathlib.Core.Bool.{true, false}
 use lib.ListN.{length, get_or, take}
 use Rattle.tables.specs.Lent.{Leaves}
 use Rattle.blocks.specs.Headers.{Bytes}
-use Rattle.refusals.specs.Said.{Said, answers}
+use Rattle.refusals.specs.Said.{Said, answers, result_says}
 use Rattle.refusals.proofs.Said.{went_on}
 use Rattle.whole.specs.declared.Recording.{Recording}
 use Rattle.whole.specs.Admissions.{admission}
 use Rattle.sp.specs.Readings.{Reading, total, packet_at, file_count_at, dss_reading}
-use Rattle.sp.specs.Outcome.{room_in, demuxed_says}
+use Rattle.sp.specs.Outcome.{room_in}
 use Rattle.entries.specs.Entries.{entry_by, Contents}
 use Rattle.entries.specs.Index.{index_of}
 use Rattle.index.specs.Reading.{contents_of, index_read}
-use Rattle.index.specs.Outcome.{built_says, totals_of, totalled}
+use Rattle.index.specs.Outcome.{totals_of, totalled}
 use Rattle.index.proofs.Theorems.{built_is, its_index_is_read, read_is_built, every_reading_has_one}
 use Rattle.finding.specs.Finding.{entry_found}
 use Rattle.finding.specs.Packet.{packet_found}
@@ -37,7 +37,7 @@ module _ (f : List ℕ) where
         × (r.second ≡ length contents.entries)
     told_built =
         let t = (build_tells f c).zero answered in
-        let says : built_says c.answer ≡ answers t.0 = c.comes.answer_is ∙ t.1 in
+        let says : result_says c.answer ≡ answers t.0 = c.comes.answer_is ∙ t.1 in
         let w = built_is f out out' c.answer c.comes t.0 says in
         (w.0, w.1, ap (λ (n : ℕ). take n out') t.3 ∙ w.2, t.4 ∙ w.3)
 
@@ -92,5 +92,5 @@ module _ (f : List ℕ) where
           × Leaves out 0 42 (λ i. get_or (packet_at reading p) i 0) out' × Leaves counts 0 1 (λ i. file_count_at reading p) counts'
       told_packet_by_index none =
           let told = (indexed_tells f x p c).zero none in
-          let says : demuxed_says c.answer ≡ answers r.first = c.comes.answer_is ∙ told.1 ∙ ap answers (sym told.3) in
+          let says : result_says c.answer ≡ answers r.first = c.comes.answer_is ∙ told.1 ∙ ap answers (sym told.3) in
           packet_handed f x p out out' counts counts' c.answer c.comes r.first says

@@ -8,7 +8,7 @@ use mathlib.Core.Logic.{⊎_elim}
 use native.Mathlib.Omega.{arith}
 use Rattle.tables.proofs.Cases.{never}
 use Rattle.blocks.specs.Headers.{Bytes}
-use Rattle.refusals.specs.declared.Refusal.{Refusal}
+use Rattle.refusals.specs.declared.Numbers.{Numbers}
 use Rattle.refusals.specs.Numbers.{OfRecord}
 use Rattle.refusals.specs.Said.{Said, answers, refusal, is_among}
 use Rattle.refusals.proofs.Said.{by_numbers}
@@ -38,7 +38,7 @@ module _ {A : Type 0} {numbers : List ℕ} {first second : A → ℕ} {other : �
       not_listed number some is none = never (subst (λ (n : ℕ). is_among numbers n ≡ true) is (told.listed (omega (arith, some, is)))) none
 
   -- a record's refusal that is told is the one that was said
-  as_said : OfRecord r.refusal → (why : Refusal) × (said ≡ refusal why) × (why ≡ told_by r) × OfRecord why.number
+  as_said : OfRecord r.refusal → (why : Numbers) × (said ≡ refusal why) × (why ≡ told_by r) × OfRecord why.number
   as_said of-record =
       let some : 0 < r.refusal = ⊎_elim (λ four. omega (arith, four)) (λ five. omega (arith, five)) of-record in
       let w = told.above some in

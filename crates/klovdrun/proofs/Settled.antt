@@ -5,20 +5,14 @@ use Prim.Native.Nat.{ℕ}
 use mathlib.Core.Path.{◌≡◌, sym, ap, ◌∙◌}
 use mathlib.Core.List.{List}
 use Rattle.tables.specs.Settled.{SettledResult, SettledAs}
-use Rattle.sp.specs.declared.Demuxed.{Demuxed}
-use Rattle.refusals.specs.Said.{Said}
+use Rattle.refusals.specs.Said.{Said, result_says}
 use Rattle.sp.specs.Readings.{Reading}
-use Rattle.sp.specs.Outcome.{demuxed_says}
 use Rattle.sp.proofs.Outcome.{only_outcome}
-use Rattle.qp.specs.Outcome.{demuxed_says as qpSays}
 use Rattle.qp.proofs.Outcome.{only_outcome as qp-only}
-use Rattle.qp7.specs.Outcome.{demuxed_says as qp7Says}
 use Rattle.qp7.proofs.Outcome.{only_outcome as qp7-only}
 use Rattle.frames.specs.Fetch.{fetched_says}
 use Rattle.frames.proofs.Theorems.{only_filled}
-use Rattle.writing.specs.Outcome.{written_says}
 use Rattle.writing.proofs.Theorems.{only_outcome as only-written}
-use Rattle.index.specs.Outcome.{built_says}
 use Rattle.index.proofs.Theorems.{only_built}
 use Rattle.reader.specs.declared.Reader.{Reader}
 use Rattle.reader.specs.declared.Step.{Step}
@@ -70,6 +64,8 @@ use Rattle.klovdrun.proofs.klov_dss_packet.Kinds as indexed
 use Rattle.klovdrun.proofs.klov_dss_packet.Reads as indexed-reads
 use Rattle.klovdrun.proofs.klov_open.Kinds as opening
 use Rattle.klovdrun.proofs.klov_open.Reads as opening-reads
+use Rattle.std.specs.Prelude.{Result, Ok, Err}
+use Rattle.refusals.specs.declared.Refusal.{Refusal}
 
 -- the exports that are lent nothing to write
 pub klov_version_settled : SettledResult 0 told.ps told.r told-reads.Post
@@ -120,7 +116,7 @@ sp_settled : {reading : Said Reading} {out out₁ out₂ counts counts₁ counts
     → SpCarries reading out out₂ counts counts₂ r' → ◌≡◌ {A = Two} (r, out₁, counts₁) (r', out₂, counts₂)
 sp_settled p q =
     let e = only_outcome p.comes q.comes in
-    let n = carried (λ answer. one_number (demuxed_says answer)) (λ i. (e i).0) p.numbers_are q.numbers_are in
+    let n = carried (λ answer. one_number (result_says answer)) (λ i. (e i).0) p.numbers_are q.numbers_are in
     (λ i. (n i, (e i).1, (e i).2))
 
 pub klov_demux_dss_settled : SettledAs 3 dss.ps dss.r (λ κs. Two) (λ κs x s. (x, s.1.0.now, s.1.1.0.now)) dss-reads.Post
@@ -138,13 +134,13 @@ klov_dss_packet_settled κs a x y s t p q = sp_settled p q
 pub klov_demux_ds2_qp_settled : SettledAs 2 qp.ps qp.r (λ κs. One) (λ κs x s. (x, s.1.0.now)) qp-reads.Post
 klov_demux_ds2_qp_settled κs a x y s t p q =
     let e = qp-only p.comes q.comes in
-    let n = carried (λ answer. qp_numbers (qpSays answer)) (λ i. (e i).0) p.numbers_are q.numbers_are in
+    let n = carried (λ answer. qp_numbers (result_says answer)) (λ i. (e i).0) p.numbers_are q.numbers_are in
     (λ i. (n i, (e i).1))
 
 pub klov_demux_ds2_qp7_settled : SettledAs 3 qp7.ps qp7.r (λ κs. Two) (λ κs x s. (x, s.1.0.now, s.1.1.0.now)) qp7-reads.Post
 klov_demux_ds2_qp7_settled κs a x y s t p q =
     let e = qp7-only p.comes q.comes in
-    let n = carried (λ answer. qp7_numbers (qp7Says answer)) (λ i. (e i).0) p.numbers_are q.numbers_are in
+    let n = carried (λ answer. qp7_numbers (result_says answer)) (λ i. (e i).0) p.numbers_are q.numbers_are in
     (λ i. (n i, (e i).1, (e i).2))
 
 pub klov_fetch_settled : SettledAs 2 fetch.ps fetch.r (λ κs. One) (λ κs x s. (x, s.1.1.1.0.now)) fetch-reads.Post
@@ -156,31 +152,31 @@ klov_fetch_settled κs a x y s t p q =
 pub klov_write_ds2_sp_settled : SettledAs 3 write.ps write.r (λ κs. One) (λ κs x s. (x, s.1.1.0.now)) write-reads.Post
 klov_write_ds2_sp_settled κs a x y s t p q =
     let e = only-written p.comes q.comes in
-    let n = carried (λ answer. one_number (written_says answer)) (λ i. (e i).0) p.numbers_are q.numbers_are in
+    let n = carried (λ answer. one_number (result_says answer)) (λ i. (e i).0) p.numbers_are q.numbers_are in
     (λ i. (n i, (e i).1))
 
 pub klov_build_index_settled : SettledAs 2 building.ps building.r (λ κs. One) (λ κs x s. (x, s.1.0.now)) building-reads.Post
 klov_build_index_settled κs a x y s t p q =
     let e = only_built p.comes q.comes in
-    let n = carried (λ answer. built_numbers (built_says answer)) (λ i. (e i).0) p.numbers_are q.numbers_are in
+    let n = carried (λ answer. built_numbers (result_says answer)) (λ i. (e i).0) p.numbers_are q.numbers_are in
     (λ i. (n i, (e i).1))
 
 -- open: the numbers and the reader beside them
 pub klov_open_settled : SettledResult 0 opening.ps opening.r opening-reads.Post
 klov_open_settled κs a x y s t p q =
     let e = only_opened _ p.comes q.comes in
-    let answer : x.answer ≡ y.answer = p.numbers_are ∙ ap (λ (step : Step). one_number (demuxed_says step.answer)) e ∙ sym q.numbers_are in
+    let answer : x.answer ≡ y.answer = p.numbers_are ∙ ap (λ (step : Step). one_number (result_says step.answer)) e ∙ sym q.numbers_are in
     (λ i. record { answer = answer i; reader = (e i).reader })
 
 -- A reader that is advanced where it stands. Its numbers are settled where what the call says and what it owes are.
-advanced : {stored stored' : Reader} {x y : Demuxed} {r r' : Answer} → Reached stored → step_to stored x ≡ step_to stored' y
-    → OwedCall stored r.second → OwedCall stored' r'.second → r ≡ owing_numbers r.second (demuxed_says x)
-    → r' ≡ owing_numbers r'.second (demuxed_says y) → (r ≡ r') × (stored ≡ stored')
+advanced : {stored stored' : Reader} {x y : Result ℕ Refusal} {r r' : Answer} → Reached stored → step_to stored x ≡ step_to stored' y
+    → OwedCall stored r.second → OwedCall stored' r'.second → r ≡ owing_numbers r.second (result_says x)
+    → r' ≡ owing_numbers r'.second (result_says y) → (r ≡ r') × (stored ≡ stored')
 advanced {stored} {stored'} {x} {y} {r} {r'} known e one other p q =
     let same : stored ≡ stored' = ap (λ (step : Step). step.reader) e in
     let says : x ≡ y = ap (λ (step : Step). step.answer) e in
     let owed : r.second ≡ r'.second = owes same in
-    (p ∙ (λ i. owing_numbers (owed i) (demuxed_says (says i))) ∙ sym q, same)
+    (p ∙ (λ i. owing_numbers (owed i) (result_says (says i))) ∙ sym q, same)
   where
     owes : stored ≡ stored' → r.second ≡ r'.second
     owes same = only_owed known one (λ s is. other s (sym same ∙ is))

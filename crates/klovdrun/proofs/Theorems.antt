@@ -7,13 +7,12 @@ use mathlib.Core.Bool.{true, false}
 use native.Mathlib.Omega.{arith}
 use lib.ListN.{length}
 use Rattle.tables.proofs.Cases.{never}
-use Rattle.refusals.specs.declared.Refusal.{Refusal}
+use Rattle.refusals.specs.declared.Numbers.{Numbers}
 use Rattle.refusals.specs.Numbers.{OfRecord}
-use Rattle.refusals.specs.Said.{Said, answers, refusal, is_among, Numbered}
+use Rattle.refusals.specs.Said.{Said, answers, refusal, is_among, Numbered, result_says}
 use Rattle.whole.specs.Payload.{payload_place}
 use Rattle.sp.specs.Readings.{Reading, dss_reading, ds2_reading}
-use Rattle.sp.specs.declared.Demuxed.{Demuxed}
-use Rattle.sp.specs.Outcome.{room_in, in_room, answered as packets, demuxed_says}
+use Rattle.sp.specs.Outcome.{room_in, in_room, answered as packets}
 use Rattle.sp.proofs.Theorems.{refused_changes_nothing}
 use Rattle.at_once.specs.Straight.{packet_reading}
 use Rattle.qp.specs.Segments.{qp_reading}
@@ -49,6 +48,8 @@ use Rattle.numbers.specs.Numbers.{numbers_or, one_number, qp_numbers, qp7_number
 use Rattle.klovdrun.specs.Wrapped.{SpCarries, QpCarries, Qp7Carries, FillCarries, WriteCarries, BuildCarries, step_to, OpenCarries, Advances, Tells, of_entry, of_tally}
 use Rattle.klovdrun.specs.Refusals.{payload_refusals, dss_refusals, ds2_refusals, packet_refusals, qp_refusals, qp7_refusals, fetch_refusals, open_refusals, piece_refusals, refusals_by, write_refusals, build_refusals, read_refusals, find_refusals, indexed_refusals}
 use Rattle.klovdrun.proofs.Refusing.{payload_numbered, dss_numbered, ds2_numbered, packet_numbered, packets_numbered, segments_numbered, records_numbered, fetch_numbered, open_numbered, piece_numbered, none_by_0, end_numbered, write_numbered, build_numbered, read_numbered, find_numbered, indexed_numbered}
+use Rattle.std.specs.Prelude.{Result, Ok, Err}
+use Rattle.refusals.specs.declared.Refusal.{Refusal}
 
 tells : {A : Type 0} {numbers : List ℕ} (first second : A → ℕ) (other : ℕ) (said : Said A) → is_among numbers 0 ≡ false → Numbered numbers said
     → {r : Answer} → r ≡ numbers_or first second other said → Tells numbers first second other said r
@@ -85,7 +86,7 @@ tells {numbers = numbers} first second other (refusal why) above_zero is {r} e =
 
 -- a number above 0 is a refusal's
 refused_of : {A : Type 0} (first second : A → ℕ) (other : ℕ) (said : Said A) {r : Answer} → r ≡ numbers_or first second other said
-    → 0 < r.refusal → (why : Refusal) × (said ≡ refusal why)
+    → 0 < r.refusal → (why : Numbers) × (said ≡ refusal why)
 refused_of first second other (answers a) {r} e some =
     let none : r.refusal ≡ 0 = ap (λ (x : Answer). x.refusal) e in
     absurd (omega (arith, none))
@@ -146,7 +147,7 @@ module _ {reading : Said Reading} {out out' counts counts' : List ℕ} {r : Answ
 
   pub sp_refused_changes_nothing : 0 < r.refusal → (out' ≡ out) × (counts' ≡ counts)
   sp_refused_changes_nothing some =
-      let why = refused_of (λ n. n) (λ n. 0) 0 (demuxed_says c.answer) c.numbers_are some in
+      let why = refused_of (λ n. n) (λ n. 0) 0 (result_says c.answer) c.numbers_are some in
       refused_changes_nothing reading out out' counts counts' c.answer c.comes why.0 why.1
 
 module _ (f : List ℕ) {out out' counts counts' : List ℕ} {r : Answer} where
@@ -237,13 +238,13 @@ unfolding is_among
 open_tells kind c = tells (λ n. n) (λ n. 0) 0 (open_said kind) refl (open_numbered kind) (c.numbers_are ∙ ap one_number c.comes.answer_is)
 
 -- what a reader's call says, and the frames owed afterwards
-module _ (s : State) (after : Said ℕ → State) (keeps : (why : Refusal) → after (refusal why) ≡ s) where
+module _ (s : State) (after : Said ℕ → State) (keeps : (why : Numbers) → after (refusal why) ≡ s) where
   owing_by : (said : Said ℕ) → owing_numbers (owed (after said)) said ≡ numbers_or (λ n. n) (λ n. owed (after (answers n))) (owed s) said
   owing_by (answers n) = refl
   owing_by (refusal why) = ap (λ (s : State). owing_numbers (owed s) (refusal why)) (keeps why)
 
-  advanced_tells : {numbers : List ℕ} (said : Said ℕ) → is_among numbers 0 ≡ false → Numbered numbers said → {stored : Reader} {answer : Demuxed}
-      → Steps said (after said) (step_to stored answer) → {r : Answer} → r ≡ owing_numbers r.second (demuxed_says answer) → OwedCall stored r.second
+  advanced_tells : {numbers : List ℕ} (said : Said ℕ) → is_among numbers 0 ≡ false → Numbered numbers said → {stored : Reader} {answer : Result ℕ Refusal}
+      → Steps said (after said) (step_to stored answer) → {r : Answer} → r ≡ owing_numbers r.second (result_says answer) → OwedCall stored r.second
       → Tells numbers (λ n. n) (λ n. owed (after (answers n))) (owed s) said r
   advanced_tells said above_zero is step {r} e owes =
       let second : r.second ≡ owed (after said) = owes (after said) step.reader_is step.sound in
@@ -288,7 +289,7 @@ module _ {reader : Reader} (known : Reached reader) where
       → Advances (EndCall reader 0 out out' counts counts') stored r → (r.first ≡ 0) × (out' ≡ out) × (counts' ≡ counts)
   strict_end_writes_nothing {r = r} c =
       let v = strict_end_hands_nothing known c.carries.comes in
-      let told = told_handed r.second (demuxed_says c.carries.answer) in
+      let told = told_handed r.second (result_says c.carries.answer) in
       (ap (λ (x : Answer). x.first) c.carries.numbers_are ∙ told ∙ v.0, v.1, v.2)
     where
       told_handed : (second : ℕ) (said : Said ℕ) → (owing_numbers second said).first ≡ handed_by said

@@ -9,7 +9,7 @@ use lib.ListN.{length, take, length-take, length-append}
 use Rattle.tables.proofs.Cases.{by_order, by_test, never}
 use Rattle.blocks.specs.Places.{limit}
 use Rattle.refusals.specs.Numbers.{numbered}
-use Rattle.refusals.specs.Said.{answers, refusal, is_among}
+use Rattle.refusals.specs.Said.{answers, refusal, is_among, result_says}
 use Rattle.refusals.proofs.Said.{not_both, by_numbers, for_the_answer}
 use Rattle.packets.specs.Packet.{read_size}
 use Rattle.sp.specs.Readings.{Reading, total, CompleteAt}
@@ -17,7 +17,6 @@ use Rattle.sp.specs.Whole.{whole_at}
 use Rattle.sp.proofs.Theorems.{complete_exactly}
 use Rattle.sp.proofs.Whole.{short_before_unswapped}
 use Rattle.writing.specs.Laying.{many_in, byte_in}
-use Rattle.writing.specs.Outcome.{written_says}
 use Rattle.writing.specs.Writable.{file_size, Writable, Unwritable}
 use Rattle.writing.specs.ReadBack.{ReadsBack}
 use Rattle.writing.proofs.Theorems.{accepted, written_is, written_is_sp, written_reads_back}
@@ -65,7 +64,7 @@ module _ {header packets out out' : List ℕ} {r : Answer} (c : WriteCarries hea
 
 -- one that answered
 module _ {header packets out out' : List ℕ} {r : Answer} (c : WriteCarries header packets out out' r) (answered : r.refusal ≡ 0) where
-  says : written_says c.answer ≡ answers r.first
+  says : result_says c.answer ≡ answers r.first
   says =
       let t = (write_tells c).zero answered in
       c.comes.answer_is ∙ t.1 ∙ ap answers (sym t.3)

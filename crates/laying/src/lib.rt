@@ -18,23 +18,14 @@ pub const HEADER: usize = 1536;
 fn is_first(first: u8) -> bool
     ensures { result ≡ (eqb first 1 || eqb first 3) }
 {
-    if first == 1 {
-        return true;
-    }
-    first == 3
+    first == 1 || first == 3
 }
 
 // Whether a caller may supply this header.
 pub fn is_header(header: &[u8]) -> bool
     ensures { result ≡ is_header header.now }
 {
-    if header.len() != HEADER {
-        return false;
-    }
-    if !is_first(header[0]) {
-        return false;
-    }
-    magic::is_spelt(header, b'd', b's', b'2')
+    header.len() == HEADER && is_first(header[0]) && magic::is_spelt(header, b'd', b's', b'2')
 }
 
 // Lays a block of this type, with no frame in it, at a place of the file.
@@ -42,11 +33,7 @@ fn lay_silent(out: &mut [u8], at: usize, kind: u8)
     requires { at + 512 ≤ length out.old }
     ensures { Leaves out.old at 512 (block_byte (no_frames kind) 0) out.new }
 {
-    let mut k = 0;
-    while k < BLOCK {
-        out[at + k] = 0;
-        k += 1;
-    }
+    out[at..at + BLOCK].fill(0);
     out[at] = 0x0F;
     out[at + 3] = 0xFF;
     out[at + 4] = kind;
@@ -59,10 +46,8 @@ pub fn begin(header: &[u8], kind: u8, blocks: usize, out: &mut [u8])
     ensures { Leaves out.old 0 (1536 + 512 * blocks) (file_byte header.now (no_frames kind)) out.new }
 {
     tables::copy(out, 0, header, 0, HEADER);
-    let mut block = 0;
-    while block < blocks {
+    for block in 0..blocks {
         lay_silent(out, HEADER + BLOCK * block, kind);
-        block += 1;
     }
 }
 

@@ -13,7 +13,7 @@ use Rattle.tables.proofs.Cases.{by_test}
 use Rattle.tables.proofs.Lent.{leaves_as, leaves_to, leaves_first, leaves_join, leaves_over, over_long}
 use Rattle.io.specs.Counts.{IsPrefixLen}
 use Rattle.io.specs.Digits.{last_digits, IsDigitCount}
-use Rattle.refusals.specs.declared.Refusal.{Refusal}
+use Rattle.refusals.specs.declared.Numbers.{Numbers}
 use Rattle.refusals.specs.Numbers.{record_refusals}
 use Rattle.refusals.specs.Said.{Said, answers, refuses, refusal, is_among}
 use Rattle.tally.specs.declared.FileKind.{FileKind}
@@ -48,7 +48,7 @@ unfolding spaced_all
 put_more n rest p q = put_join p q
 
 -- the end of a refusal's line, as the test for a record's has told
-pub put_told : (why : Refusal) {line line' : List ℕ} {at end : ℕ} {of-record : Bool} → is_among record_refusals why.number ≡ of-record
+pub put_told : (why : Numbers) {line line' : List ℕ} {at end : ℕ} {of-record : Bool} → is_among record_refusals why.number ≡ of-record
     → Put (spaced_all (cond of-record (why.size ∷ why.absent ∷ []) [])) at line line' end → Put (spaced_all (lack_of why)) at line line' end
 put_told why told p = rw told p
 
@@ -102,7 +102,7 @@ spaced_few [] = omega arith
 spaced_few (n ∷ rest) = simp length-append (omega (arith, decimal_few n, spaced_few rest))
 
 -- a refusal has at most two numbers more
-lack_few : (why : Refusal) → length (lack_of why) ≤ 2
+lack_few : (why : Numbers) → length (lack_of why) ≤ 2
 lack_few why = by_test (is_among record_refusals why.number) (λ e. simp e (omega arith)) (λ e. simp e (omega arith))
 
 -- a line has at most 133 bytes

@@ -7,7 +7,7 @@ use mathlib.Core.Logic.{⊎_elim, inl, inr}
 use borrow.Author.Tests.{ne_eqb}
 use lib.ListN.{length}
 use Rattle.tables.specs.Settled.{SettledAs}
-use Rattle.refusals.specs.declared.Refusal.{Refusal}
+use Rattle.refusals.specs.declared.Numbers.{Numbers}
 use Rattle.refusals.specs.Numbers.{numbered, lacking, OfRecord}
 use Rattle.refusals.specs.Said.{answers, refusal, is_among}
 use Rattle.magic.specs.Withdrawn.{encrypted}
@@ -44,7 +44,7 @@ example_refusals = (refl, refl)
 
 -- The line of a file that the tally refuses by 4 or 5 has four numbers: the refusal's, the place, the record's size and the bytes that are
 -- absent. By any other the line has two: the refusal's and the one beside it.
-module _ (f : List ℕ) (few : length f ≤ 65536) (why : Refusal) (e : tallied f ≡ refusal why) where
+module _ (f : List ℕ) (few : length f ≤ 65536) (why : Numbers) (e : tallied f ≡ refusal why) where
   listed_so : list_line f ≡ line_of (refusal why)
   unfolding list_line
   listed_so = ap line_of (short_enough f few ∙ e)

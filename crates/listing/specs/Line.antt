@@ -2,7 +2,7 @@
 -- Assumes nothing.
 use Rattle.std.specs.Prelude.{ℕ, ◌≡◌, List, [], ◌∷◌, ◌++◌, cond, length, leb}
 use Rattle.tables.specs.Entries.{fronted}
-use Rattle.refusals.specs.declared.Refusal.{Refusal}
+use Rattle.refusals.specs.declared.Numbers.{Numbers}
 use Rattle.refusals.specs.Numbers.{record_refusals}
 use Rattle.refusals.specs.Said.{Said, answers, refusal, demand, is_among}
 use Rattle.tally.specs.declared.FileKind.{FileKind}
@@ -37,10 +37,10 @@ tally_line t =
     ++ spaced_all (t.start.0 ∷ t.blocks ∷ t.announced ∷ t.out.many ∷ t.out.short ∷ t.out.bytes ∷ [])
 
 -- refused, its number, the number beside it; and of a record that cannot be read its size, and how many bytes are absent
-abbrev pub lack_of : Refusal → List ℕ
+abbrev pub lack_of : Numbers → List ℕ
 lack_of why = cond (is_among record_refusals why.number) (why.size ∷ why.absent ∷ []) []
 
-abbrev pub refused_line : Refusal → List ℕ
+abbrev pub refused_line : Numbers → List ℕ
 refused_line why = refused_word ++ spaced_all (why.number ∷ why.beside ∷ lack_of why)
 
 abbrev pub line_of : Said Figures → List ℕ

@@ -6,7 +6,7 @@ ghost use Rattle.std.specs.Prelude.{◌≡◌, ◌≤◌, length, get_or};
 ghost use Rattle.magic.specs.Magics.{spells, names_dss, dss_by, ds2_by, magic_of};
 
 // What a file's first four bytes say.
-#[derive(Clone, Copy)]
+#[derive(Clone, Copy, Debug, PartialEq, Eq)]
 pub enum Magic {
     Dss,
     Ds2,
@@ -18,51 +18,37 @@ pub enum Magic {
 pub fn first_byte(file: &[u8]) -> u8
     ensures { result ≡ get_or file.now 0 0 }
 {
-    if 0 < file.len() { file[0] } else { 0 }
+    file.first().copied().unwrap_or(0)
 }
 
 // For the crates above too. Whether bytes 1 to 3 of the file are these.
+#[tactic(auto, unfolding(crate::specs::Magics::spells))]
 pub fn is_spelt(file: &[u8], x: u8, y: u8, z: u8) -> bool
     requires { 4 ≤ length file.now }
     ensures { result ≡ spells file.now x y z }
 {
-    if file[1] != x {
-        return false;
-    }
-    if file[2] != y {
-        return false;
-    }
-    file[3] == z
+    file[1] == x && file[2] == y && file[3] == z
 }
 
+#[tactic(auto, unfolding(crate::specs::Magics::dss_by))]
 fn dss_by(first: u8) -> Magic
     ensures { result ≡ dss_by first }
 {
-    if first == 2 {
-        return Magic::Dss;
+    match first {
+        2 | 3 => Magic::Dss,
+        6 => Magic::Grundig,
+        _ => Magic::Other,
     }
-    if first == 3 {
-        return Magic::Dss;
-    }
-    if first == 6 {
-        return Magic::Grundig;
-    }
-    Magic::Other
 }
 
+#[tactic(auto, unfolding(crate::specs::Magics::ds2_by))]
 fn ds2_by(first: u8) -> Magic
     ensures { result ≡ ds2_by first }
 {
-    if first == 1 {
-        return Magic::Ds2;
+    match first {
+        1 | 3 | 7 => Magic::Ds2,
+        _ => Magic::Other,
     }
-    if first == 3 {
-        return Magic::Ds2;
-    }
-    if first == 7 {
-        return Magic::Ds2;
-    }
-    Magic::Other
 }
 
 // For the crates above. Whether bytes 1 to 3 of the file are `dss`, whatever its first byte is.

@@ -1,7 +1,7 @@
 -- The numbers that cross the boundary to C: what a call of the crates below says, as six numbers, seven or eleven. A refusal is its number, the
 -- number beside it, size and absent; an answer has refusal 0, and what a call does not name is 0. Assumes nothing.
 use Rattle.std.specs.Prelude.{ℕ, Bool, cond}
-use Rattle.refusals.specs.declared.Refusal.{Refusal}
+use Rattle.refusals.specs.declared.Numbers.{Numbers}
 use Rattle.refusals.specs.Said.{Said, answers, refusal}
 use Rattle.detect.specs.declared.AudioFormat.{AudioFormat}
 use Rattle.detect.specs.declared.AudioFormat.TheVariants.{None, DssSp, Ds2Sp, Ds2Qp, Ds2Qp7, GrundigSp}
@@ -36,7 +36,7 @@ truth_number truth = cond truth 1 0
 abbrev pub answering : ℕ → ℕ → Answer
 answering first second = record { refusal = 0; beside = 0; first = first; second = second; size = 0; absent = 0 }
 
-abbrev pub refusing : Refusal → ℕ → Answer
+abbrev pub refusing : Numbers → ℕ → Answer
 refusing why second =
     record { refusal = why.number; beside = why.beside; first = 0; second = second; size = why.size; absent = why.absent }
 

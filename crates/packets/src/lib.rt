@@ -36,15 +36,11 @@ pub fn read_size(swap: bool) -> usize
 }
 
 // How many bytes of a read at q come from a stream of so many bytes.
+#[tactic(auto, unfolding(crate::specs::Packet::file_count))]
 pub fn file_count(long: usize, q: StreamPlace, swap: bool) -> u8
     ensures { result ≡ file_count long swap q.0 }
 {
-    let at = q.0;
-    if long <= at {
-        return 0;
-    }
-    let count = tables::lesser(read_size(swap), long - at);
-    count as u8
+    read_size(swap).min(long.saturating_sub(q.0)) as u8
 }
 
 // How far k packets go.
@@ -72,10 +68,7 @@ pub fn upto_unswapped(swap: bool, k: usize) -> usize
     if parity(swap, k) {
         return k;
     }
-    if k == 0 {
-        return 0;
-    }
-    k - 1
+    k.saturating_sub(1)
 }
 
 // How many reads end at or before m: a pair takes 82 bytes, and what is left of them is one read more or none.
@@ -96,7 +89,7 @@ pub fn reads_within(swap: bool, m: usize) -> usize
 pub fn swap_bit(swap: bool) -> usize
     ensures { (result ≡ cond swap 1 0) × (result ≤ 1) }
 {
-    if swap { 1 } else { 0 }
+    usize::from(swap)
 }
 
 // Where the frames of a DSS block start, by its number, its byte 1 and its flag. A file within the limit has under 2^20 blocks.
@@ -109,7 +102,7 @@ pub fn dss_start(block: usize, byte1: usize, swap: bool) -> StreamPlace
     if far < 6 {
         return StreamPlace(base);
     }
-    StreamPlace(base + tables::lesser(PAYLOAD, far - 6))
+    StreamPlace(base + PAYLOAD.min(far - 6))
 }
 
 // The 42 bytes that lie together there, byte 40 set to 0: an unswapped read's packet.
@@ -118,11 +111,7 @@ fn plain(src: &[u8], at: usize) -> [u8; 42]
     ensures { result ≡ table 42 (packet_byte false 0 (from (bytes_of src.now) at)) }
 {
     let mut bytes = [0u8; 42];
-    let mut k = 0;
-    while k < 42 {
-        bytes[k] = src[at + k];
-        k += 1;
-    }
+    tables::copy(&mut bytes, 0, src, at, 42);
     bytes[40] = 0;
     bytes
 }
@@ -135,11 +124,7 @@ fn shifted(src: &[u8], at: usize, carry: u8) -> [u8; 52]
 {
     let mut read = [0u8; 52];
     read[1] = carry;
-    let mut k = 0;
-    while k < 40 {
-        read[3 + k] = src[at + k];
-        k += 1;
-    }
+    tables::copy(&mut read, 3, src, at, 40);
     read
 }
 
@@ -154,10 +139,8 @@ pub fn blend(read: [u8; 52]) -> [u8; 48]
     ensures { Blends read result }
 {
     let mut blend = [0u8; 48];
-    let mut k = 0;
-    while k < 48 {
+    for k in 0..48 {
         blend[k] = either(k, read[k + 4], read[k]);
-        k += 1;
     }
     blend
 }
@@ -178,11 +161,7 @@ fn swapped(src: &[u8], at: usize, carry: u8) -> [u8; 42]
 {
     let blend = blended(src, at, carry);
     let mut bytes = [0u8; 42];
-    let mut k = 0;
-    while k < 42 {
-        bytes[k] = blend[k];
-        k += 1;
-    }
+    tables::copy(&mut bytes, 0, &blend, 0, 42);
     bytes
 }
 
@@ -205,8 +184,7 @@ pub fn carry_after(src: &[u8], at: usize, swap: bool, carry: u8) -> u8
     if swap {
         return carry;
     }
-    let last = at + 40;
-    src[last]
+    src[at + 40]
 }
 
 // The 42 bytes of the stream from q on, by one run in each of two blocks; 0 past the stream's end.
@@ -221,17 +199,14 @@ fn seam(file: &[u8], a: FilePlace, blocks: usize, q: StreamPlace) -> [u8; 42]
         return window;
     }
     let here = blocks::in_file(a, q);
-    let near = here.0;
-    let n = tables::lesser(PAYLOAD - at % PAYLOAD, 42);
-    tables::copy(&mut window, 0, file, near, n);
+    let n = 42.min(PAYLOAD - at % PAYLOAD);
+    tables::copy(&mut window, 0, file, here.0, n);
     let next = block + 1;
     if blocks <= next {
         return window;
     }
     let there = blocks::in_file(a, StreamPlace(PAYLOAD * next));
-    let far = there.0;
-    let m = 42 - n;
-    tables::copy(&mut window, n, file, far, m);
+    tables::copy(&mut window, n, file, there.0, 42 - n);
     window
 }
 
@@ -250,29 +225,20 @@ pub fn read_packet(
 {
     let at = q.0;
     let next = at + read_size(swap);
-    if at / PAYLOAD < blocks {
-        if at % PAYLOAD <= LAST_INSIDE {
-            let here = blocks::in_file(a, q);
-            let index = here.0;
-            let bytes = packet_bytes(file, index, swap, carry);
-            let after = carry_after(file, index, swap, carry);
-            let size = read_size(swap);
-            return Packet {
-                bytes,
-                count: size as u8,
-                carry: after,
-                next: StreamPlace(next),
-            };
-        }
+    if at / PAYLOAD < blocks && at % PAYLOAD <= LAST_INSIDE {
+        let here = blocks::in_file(a, q);
+        return Packet {
+            bytes: packet_bytes(file, here.0, swap, carry),
+            count: read_size(swap) as u8,
+            carry: carry_after(file, here.0, swap, carry),
+            next: StreamPlace(next),
+        };
     }
     let window = seam(file, a, blocks, q);
-    let bytes = packet_bytes(&window, 0, swap, carry);
-    let after = carry_after(&window, 0, swap, carry);
-    let count = file_count(PAYLOAD * blocks, q, swap);
     Packet {
-        bytes,
-        count,
-        carry: after,
+        bytes: packet_bytes(&window, 0, swap, carry),
+        count: file_count(PAYLOAD * blocks, q, swap),
+        carry: carry_after(&window, 0, swap, carry),
         next: StreamPlace(next),
     }
 }

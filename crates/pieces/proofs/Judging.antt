@@ -9,7 +9,7 @@ use lib.ListN.{length}
 use lib.Dec.{leb}
 use Rattle.tables.proofs.Cases.{by_test}
 use Rattle.blocks.specs.Places.{whole_blocks}
-use Rattle.refusals.specs.declared.Refusal.{Refusal}
+use Rattle.refusals.specs.declared.Numbers.{Numbers}
 use Rattle.refusals.specs.Said.{Said, answers, refusal, refuses, demand}
 use Rattle.hold.specs.declared.Standing.{Standing}
 use Rattle.hold.specs.Ready.{ready}
@@ -20,10 +20,10 @@ use Rattle.pieces.proofs.Sources.{numbers_of}
 pub fair : {said is : Said ℕ} {accepted : Bool} → said ≡ is → accepted ≡ accepts is → accepted ≡ accepts said
 fair p q = q ∙ sym (ap accepts p)
 
-pub refused_as : {said wanted : Said ℕ} {why is : Refusal} → said ≡ refusal why → why ≡ is → wanted ≡ refusal is → said ≡ wanted
+pub refused_as : {said wanted : Said ℕ} {why is : Numbers} → said ≡ refusal why → why ≡ is → wanted ≡ refusal is → said ≡ wanted
 refused_as p q w = p ∙ ap refusal q ∙ sym w
 
-pub says_no : {said wanted : Said ℕ} {accepted : Bool} {why is : Refusal} → (said ≡ refusal why) × (accepted ≡ false) → why ≡ is
+pub says_no : {said wanted : Said ℕ} {accepted : Bool} {why is : Numbers} → (said ≡ refusal why) × (accepted ≡ false) → why ≡ is
     → wanted ≡ refusal is → (said ≡ wanted) × (accepted ≡ accepts said)
 says_no v q w = (refused_as v.0 q w, fair v.0 v.1)
 

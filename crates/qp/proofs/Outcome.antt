@@ -12,19 +12,19 @@ use lib.Dec.{leb, ltb}
 use Rattle.tables.specs.Entries.{fronted}
 use Rattle.tables.proofs.Cases.{by_order}
 use Rattle.tables.proofs.Entries.{in_turn_long, fronts_all, fronts_nothing}
-use Rattle.refusals.specs.declared.Refusal.{Refusal}
+use Rattle.refusals.specs.declared.Numbers.{Numbers}
 use Rattle.refusals.specs.Numbers.{numbered}
-use Rattle.refusals.specs.Said.{Said, answers, refusal}
+use Rattle.refusals.specs.Said.{Said, answers, refusal, result_says}
 use Rattle.refusals.proofs.Said.{went_on, only_one, read_from, asked_of}
 use Rattle.whole.specs.declared.Recording.{Recording}
 use Rattle.detect.specs.declared.Kind.TheVariants.{Qp}
 use Rattle.whole.specs.Admissions.{announced_by, ds2_admission}
 use Rattle.qp.specs.declared.Totals.{Totals}
-use Rattle.qp.specs.declared.Demuxed.{Demuxed}
-use Rattle.qp.specs.declared.Demuxed.TheVariants.{Segments, Refused}
 use Rattle.qp.specs.Segments.{Reading, reading_of, segments_from, qp_reading}
-use Rattle.qp.specs.Outcome.{width, entry_of, words, in_room, in_table, totals_of, demuxed_says, Demuxes}
+use Rattle.qp.specs.Outcome.{width, entry_of, words, in_room, in_table, totals_of, Demuxes}
 use Rattle.qp.specs.Inner.{Holds}
+use Rattle.std.specs.Prelude.{Result, Ok, Err}
+use Rattle.refusals.specs.declared.Refusal.{Refusal}
 
 -- the entries that are written at once, which are all that can be or none, and the rest
 module _ (f : List ℕ) (rec : Recording) (room written needed : ℕ) (is : needed ≡ length (segments_from f rec)) (table between : List ℕ)
@@ -40,7 +40,7 @@ module _ (f : List ℕ) (rec : Recording) (room written needed : ℕ) (is : need
   unwritten : written ≡ 0 → between ≡ table
   unwritten none = fronts_nothing (width * written) (words (segments_from f rec)) (omega (arith, none)) first
 
-  pub no_room : room < needed → Demuxes (answers (reading_of f rec)) table between (Refused (numbered 9 needed))
+  pub no_room : room < needed → Demuxes (answers (reading_of f rec)) table between (Err (numbered 9 needed))
   unfolding in_room
   no_room full =
       let over : leb (length (segments_from f rec)) (length table / width) ≡ false = lt-leb (length (segments_from f rec)) (length table / width) (omega (arith, full, is, roomy)) in
@@ -48,7 +48,7 @@ module _ (f : List ℕ) (rec : Recording) (room written needed : ℕ) (is : need
 
   pub with_room : (announced : ℕ) (table' : List ℕ) → announced ≡ announced_by f rec → needed ≤ room → (needed ≤ written → table' ≡ between)
       → (written < needed → Holds needed (segments_from f rec) between table')
-      → Demuxes (answers (reading_of f rec)) table table' (Segments (record { segments = needed; announced = announced }))
+      → Demuxes (answers (reading_of f rec)) table table' (Ok (record { segments = needed; announced = announced }))
   unfolding in_room
   with_room announced table' sum fits kept rest =
       let can : leb (length (segments_from f rec)) (length table / width) ≡ true = le-leb (length (segments_from f rec)) (length table / width) (omega (arith, fits, is, roomy)) in
@@ -67,34 +67,34 @@ module _ (f : List ℕ) (rec : Recording) (room written needed : ℕ) (is : need
 
 -- what was admitted: a refusal is passed on, and a recording goes on to be read
 module _ (f : List ℕ) (table : List ℕ) where
-  pub not_taken : (why : Refusal) → refusal why ≡ ds2_admission f Qp
-      → Demuxes (qp_reading f) table table (Refused why)
+  pub not_taken : (why : Numbers) → refusal why ≡ ds2_admission f Qp
+      → Demuxes (qp_reading f) table table (Err why)
   unfolding qp_reading in_room
   not_taken why e = rw (← e) (record { answer_is = refl; table_is = refl })
 
-  pub taken : (rec : Recording) (table' : List ℕ) (answer : Demuxed) → answers rec ≡ ds2_admission f Qp
+  pub taken : (rec : Recording) (table' : List ℕ) (answer : Result Totals Refusal) → answers rec ≡ ds2_admission f Qp
       → Demuxes (answers (reading_of f rec)) table table' answer → Demuxes (qp_reading f) table table' answer
   unfolding qp_reading
   taken rec table' answer e d = rw (← e) d
 
 -- an answer is read back from what it says
-demuxed_back : (x : Demuxed) → read_from Segments Refused (demuxed_says x) ≡ x
-demuxed_back (Segments totals) = refl
-demuxed_back (Refused why) = refl
+demuxed_back : (x : Result Totals Refusal) → read_from Ok Err (result_says x) ≡ x
+demuxed_back (Ok totals) = refl
+demuxed_back (Err why) = refl
 
 -- what is seen of an outcome
 abbrev pub Seen : Type 0
-Seen = Demuxed × List ℕ
+Seen = Result Totals Refusal × List ℕ
 
-pub only_outcome : {reading : Said Reading} {table one' other' : List ℕ} {one other : Demuxed} → Demuxes reading table one' one
+pub only_outcome : {reading : Said Reading} {table one' other' : List ℕ} {one other : Result Totals Refusal} → Demuxes reading table one' one
     → Demuxes reading table other' other → ◌≡◌ {A = Seen} (one, one') (other, other')
 only_outcome {reading} {table} {one'} {other'} {one} {other} d e =
-    let answer : one ≡ other = only_one demuxed_says (read_from Segments Refused) demuxed_back one other _ d.answer_is e.answer_is in
+    let answer : one ≡ other = only_one result_says (read_from Ok Err) demuxed_back one other _ d.answer_is e.answer_is in
     cc (answer, d.table_is, e.table_is)
 
 -- what an accepted call has read
-pub accepted_read : (reading : Said Reading) (table table' : List ℕ) (answer : Demuxed) → Demuxes reading table table' answer
-    → (totals : Totals) → demuxed_says answer ≡ answers totals
+pub accepted_read : (reading : Said Reading) (table table' : List ℕ) (answer : Result Totals Refusal) → Demuxes reading table table' answer
+    → (totals : Totals) → result_says answer ≡ answers totals
     → (r : Reading) × (reading ≡ answers r) × (totals_of r ≡ totals) × (length r.segments ≤ length table / width)
     × (in_table reading table ≡ answers r)
 unfolding in_room

@@ -17,8 +17,8 @@ use Rattle.blocks.specs.Places.{Whole}
 use Rattle.blocks.specs.Headers.{Bytes}
 use Rattle.blocks.specs.Stream.{joined}
 use Rattle.blocks.proofs.Stream.{joined_long}
-use Rattle.refusals.specs.declared.Refusal.{Refusal}
-use Rattle.refusals.specs.Said.{Said, answers, refuses, refusal}
+use Rattle.refusals.specs.declared.Numbers.{Numbers}
+use Rattle.refusals.specs.Said.{Said, answers, refuses, refusal, result_says}
 use Rattle.refusals.proofs.Said.{not_both, went_on}
 use Rattle.whole.specs.declared.Recording.{Recording}
 use Rattle.detect.specs.declared.Kind.TheVariants.{Qp}
@@ -31,18 +31,19 @@ use Rattle.frames.proofs.Cut.{cut_many}
 use Rattle.frames.proofs.Theorems.{frames_are_cut}
 use Rattle.qp.specs.declared.Segment.{Segment}
 use Rattle.qp.specs.declared.Totals.{Totals}
-use Rattle.qp.specs.declared.Demuxed.{Demuxed}
 use Rattle.qp.specs.Segments.{Reading, reading_of, segments_from, qp_reading, Lies}
-use Rattle.qp.specs.Outcome.{width, entry_of, words, in_room, in_table, totals_of, answered, table_after, demuxed_says, Demuxes}
+use Rattle.qp.specs.Outcome.{width, entry_of, words, in_room, in_table, totals_of, answered, table_after, Demuxes}
 use Rattle.qp.specs.Handed.{bytes_of, frames_of, fetched_of, announced_of, handed_out_of, short_of, missing_from, bytes_in}
 use Rattle.qp.proofs.Kept.{totals_add_up, handed_or_missing, all_lie, all_reset}
 use Rattle.qp.proofs.Outcome.{accepted_read, Seen, only_outcome}
 use Rattle.qp.proofs.demux_ds2_qp.Kinds as qp
 use Rattle.qp.proofs.demux_ds2_qp.Reads as qp-reads
+use Rattle.std.specs.Prelude.{Result, Ok, Err}
+use Rattle.refusals.specs.declared.Refusal.{Refusal}
 
-module _ (reading : Said Reading) (table table' : List ℕ) (answer : Demuxed) (d : Demuxes reading table table' answer) where
+module _ (reading : Said Reading) (table table' : List ℕ) (answer : Result Totals Refusal) (d : Demuxes reading table table' answer) where
   -- A refused call changes nothing.
-  pub refused_changes_nothing : (why : Refusal) → demuxed_says answer ≡ refusal why → table' ≡ table
+  pub refused_changes_nothing : (why : Numbers) → result_says answer ≡ refusal why → table' ≡ table
   refused_changes_nothing why e = d.table_is ∙ refused (in_table reading table) (sym d.answer_is ∙ e)
     where
       refused : (said : Said Reading) → answered said ≡ refusal why → table_after said table ≡ table
@@ -51,7 +52,7 @@ module _ (reading : Said Reading) (table table' : List ℕ) (answer : Demuxed) (
 
   -- An accepted call answers how many segments the reading has and how many frames are announced, and leaves the segments' words from the
   -- front of the table on.
-  pub accepted_writes : (totals : Totals) → demuxed_says answer ≡ answers totals
+  pub accepted_writes : (totals : Totals) → result_says answer ≡ answers totals
       → (r : Reading) × (reading ≡ answers r) × (totals_of r ≡ totals) × (width * length r.segments ≤ length table) × (table' ≡ fronted (words r.segments) table)
   accepted_writes totals e =
       let w = accepted_read reading table table' answer d totals e in

@@ -1,13 +1,12 @@
 -- What the QP call answers and leaves in the lent table, given its reading: refusal 9 with the segments needed, or all the segments'
 -- entries. A refused call leaves everything as it was. Assumes nothing.
-use Rattle.std.specs.Prelude.{ℕ, ◌/◌, ◌≡◌, List, [], ◌∷◌, length, leb}
+use Rattle.std.specs.Prelude.{ℕ, ◌/◌, ◌≡◌, List, [], ◌∷◌, length, leb, Result, Ok, Err}
 use Rattle.tables.specs.Entries.{in_turn, fronted}
-use Rattle.refusals.specs.Said.{Said, answers, refusal, demand, onward}
+use Rattle.refusals.specs.Said.{Said, answers, refusal, demand, onward, result_says}
 use Rattle.qp.specs.declared.Segment.{Segment}
 use Rattle.qp.specs.declared.Totals.{Totals}
-use Rattle.qp.specs.declared.Demuxed.{Demuxed}
-use Rattle.qp.specs.declared.Demuxed.TheVariants.{Segments, Refused}
 use Rattle.qp.specs.Segments.{Reading}
+use Rattle.refusals.specs.declared.Refusal.{Refusal}
 
 -- a segment's entry: so many words
 abbrev pub width : ℕ
@@ -40,12 +39,7 @@ abbrev pub table_after : Said Reading → List ℕ → List ℕ
 table_after (answers r) table = fronted (words r.segments) table
 table_after (refusal why) table = table
 
--- the code's answer, read so
-abbrev pub demuxed_says : Demuxed → Said Totals
-demuxed_says (Segments totals) = answers totals
-demuxed_says (Refused why) = refusal why
-
 -- the call's outcome is the definition's: answer and table
-pub record Demuxes (reading : Said Reading) (table table' : List ℕ) (answer : Demuxed) : Type 0 where
-  pub answer_is : demuxed_says answer ≡ answered (in_table reading table)
+pub record Demuxes (reading : Said Reading) (table table' : List ℕ) (answer : Result Totals Refusal) : Type 0 where
+  pub answer_is : result_says answer ≡ answered (in_table reading table)
   pub table_is : table' ≡ table_after (in_table reading table) table

@@ -16,7 +16,7 @@ use blocks::{PAYLOAD, StreamPlace};
 use detect::Kind;
 use frames::FRAME;
 use refusals::Refusal;
-use whole::{Admission, Recording};
+use whole::Recording;
 
 // The words of a segment's entry.
 pub const ENTRY: usize = 4;
@@ -48,13 +48,6 @@ pub struct Totals {
     pub announced: usize,
 }
 
-// The totals of what was handed out, or why the call refuses.
-#[derive(Clone, Copy)]
-pub enum Demuxed {
-    Segments(Totals),
-    Refused(Refusal),
-}
-
 // Puts a segment's entry under a number, if that is to be written.
 fn put(segment: Segment, number: usize, most: usize, table: &mut [u32])
     requires fits { (segment.start.0 < 2 ^ 32) × (segment.long < 2 ^ 32) × (segment.frames < 2 ^ 32) × (segment.reset < 2 ^ 32) }
@@ -82,13 +75,12 @@ fn close(gathering: Gathering, end: usize, most: usize, table: &mut [u32]) -> us
     if gathering.frames == 0 {
         return number;
     }
-    let start = gathering.start;
-    let stop = tables::lesser(gathering.place.0, end);
+    let stop = end.min(gathering.place.0);
     let segment = Segment {
-        start,
-        long: stop - start.0,
+        start: gathering.start,
+        long: stop - gathering.start.0,
         frames: gathering.frames,
-        reset: tables::lesser(1, number),
+        reset: number.min(1),
     };
     put(segment, number, most, table);
     number + 1
@@ -125,13 +117,10 @@ pub fn add(gathering: Gathering, count: usize) -> Gathering
     ensures adds { (g : Gathered) → gathering ≡ numbers_of g → result ≡ numbers_of (counted count g) }
     ensures near { (long frames kept : ℕ) → Near long frames kept gathering → Near long (frames + count) kept result }
 {
-    let start = gathering.start;
-    let place = StreamPlace(gathering.place.0 + FRAME * count);
     Gathering {
-        start,
-        place,
+        place: StreamPlace(gathering.place.0 + FRAME * count),
         frames: gathering.frames + count,
-        kept: gathering.kept,
+        ..gathering
     }
 }
 
@@ -143,22 +132,17 @@ fn write_segments(file: &[u8], recording: Recording, most: usize, table: &mut [u
     ensures few { result ≤ recording.blocks + 1 }
     ensures written { Holds most (segments_from file.now recording) table.old table.new }
 {
-    let start = recording.start;
-    let blocks = recording.blocks;
-    let end = PAYLOAD * blocks;
+    let end = PAYLOAD * recording.blocks;
     let mut gathering = Gathering {
         start: StreamPlace(0),
         place: StreamPlace(0),
         frames: 0,
         kept: 0,
     };
-    let mut block = 0;
-    while block < blocks {
-        let at = frames::block_start(file, start, block);
+    for block in 0..recording.blocks {
+        let at = frames::block_start(file, recording.start, block);
         let arrived = arrive(gathering, at, end, most, table);
-        let count = blocks::count_byte(file, start, block);
-        gathering = add(arrived, count);
-        block += 1;
+        gathering = add(arrived, blocks::count_byte(file, recording.start, block));
     }
     close(gathering, end, most, table)
 }
@@ -184,7 +168,7 @@ fn write_needed(file: &[u8], recording: Recording, written: usize, needed: usize
 }
 
 // Hands out a recording's segments, if there is room for all.
-fn read(file: &[u8], recording: Recording, table: &mut [u32]) -> Demuxed
+fn read(file: &[u8], recording: Recording, table: &mut [u32]) -> Result<Totals, Refusal>
     requires { Sound file.now recording }
     ensures { Demuxes (answers (reading_of file.now recording)) table.old table.new result }
 {
@@ -192,10 +176,10 @@ fn read(file: &[u8], recording: Recording, table: &mut [u32]) -> Demuxed
     let written = at_once(recording.blocks, room);
     let needed = write_segments(file, recording, written, table);
     if room < needed {
-        return Demuxed::Refused(Refusal::segments(needed));
+        return Err(Refusal::Segments(needed));
     }
     write_needed(file, recording, written, needed, table);
-    Demuxed::Segments(Totals {
+    Ok(Totals {
         segments: needed,
         announced: recording.announced(file),
     })
@@ -203,13 +187,10 @@ fn read(file: &[u8], recording: Recording, table: &mut [u32]) -> Demuxed
 
 // The segments of a QP file, or a refusal that changes nothing. That a lent file is a list of bytes is the language's own fact; the contract
 // passes it on, since where segments lie rests on it.
-pub fn demux_ds2_qp(file: &[u8], table: &mut [u32]) -> Demuxed
+pub fn demux_ds2_qp(file: &[u8], table: &mut [u32]) -> Result<Totals, Refusal>
     ensures outcome { Demuxes (qp_reading file.now) table.old table.new result }
     ensures bytes { Bytes file.now }
 {
-    let asked = whole::admit_ds2(file, Kind::Qp);
-    match asked {
-        Admission::Refused(why) => Demuxed::Refused(why),
-        Admission::Admitted(recording) => read(file, recording, table),
-    }
+    let recording = whole::admit_ds2(file, Kind::Qp)?;
+    read(file, recording, table)
 }

@@ -15,14 +15,14 @@ use Rattle.frames.specs.Start.{frames_start}
 use Rattle.qp7.specs.declared.Segment.{Segment}
 use Rattle.qp7.specs.declared.Totals.{Totals}
 use Rattle.qp7.specs.declared.Walk.{Walk}
-use Rattle.qp7.specs.declared.Walked.{Walked}
-use Rattle.qp7.specs.declared.Walked.TheVariants.{At}
 use Rattle.qp7.specs.Walk.{Gathered, raised, closing, reads, with_block}
 use Rattle.qp7.specs.Outcome.{width, entry_of}
 use Rattle.qp7.specs.Inner.{numbers_of, numbers_at, Near, RecordsHold, SegmentsHold, ReadsOn, Closes, GoesOn}
 use Rattle.qp7.proofs.Standing.{stands_by}
 use Rattle.qp7.proofs.Closing.{closing_records, closes_unwritten}
 use Rattle.qp7.proofs.Reading.{same_segments}
+use Rattle.std.specs.Prelude.{Result, Ok, Err}
+use Rattle.refusals.specs.declared.Refusal.{Refusal}
 
 -- the read place of a walk was raised, and nothing else of it changed
 abbrev pub Raised : Walk → ℕ → Walk → Type 0
@@ -50,7 +50,7 @@ module _ (f : List ℕ) (a n b : ℕ) (g : Gathered) where
   -- what a silent block leaves
   pub silent_goes_on : (most : Totals) (closed r : Walk) (records segments segments' : List ℕ) (count : ℕ) → count ≡ count_of f a b → count ≡ 0
       → Closes most.segments g segments segments' closed → Raised closed (506 * (b + 1)) r
-      → GoesOn most g (with_block f a n b g) records records segments segments' (At r)
+      → GoesOn most g (with_block f a n b g) records records segments segments' (Ok r)
   silent_goes_on most closed r records segments segments' count is none c up =
       record {
         answer_is = ap answers (raised_stands closed (506 * (b + 1)) r (closing g) c.walk_is up) ∙ sym (ap numbers_at to);
@@ -68,7 +68,7 @@ module _ (f : List ℕ) (a n b : ℕ) (g : Gathered) where
       kept d w = subst (λ (words : List ℕ). Fronts d (1 * most.records) words records) (sym (closing_records g)) w
 
   -- what another leaves
-  pub announcing_goes_on : (most : Totals) (records records' segments : List ℕ) (count q : ℕ) (r : Walked) → count ≡ count_of f a b
+  pub announcing_goes_on : (most : Totals) (records records' segments : List ℕ) (count q : ℕ) (r : Result Walk Refusal) → count ≡ count_of f a b
       → (count ≡ 0 → ⊥) → q ≡ frames_start b (first_of f a b)
       → ReadsOn (stream_at f a n) (506 * n) count most.records (raised q g) records records' r
       → GoesOn most g (with_block f a n b g) records records' segments segments r

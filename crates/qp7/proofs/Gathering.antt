@@ -7,17 +7,17 @@ use native.Mathlib.Numerals.{add-one}
 use native.Mathlib.Omega.{arith}
 use Rattle.tables.specs.Inner.{Fronts}
 use Rattle.tables.proofs.Cases.{by_order}
-use Rattle.refusals.specs.declared.Refusal.{Refusal}
-use Rattle.refusals.specs.Said.{Said, answers, refusal, onward}
+use Rattle.refusals.specs.declared.Numbers.{Numbers}
+use Rattle.refusals.specs.Said.{Said, answers, refusal, onward, result_says}
 use Rattle.refusals.proofs.Said.{not_both, went_on, for_the_answer}
 use Rattle.whole.specs.declared.Recording.{Recording}
 use Rattle.qp7.specs.declared.Totals.{Totals}
 use Rattle.qp7.specs.declared.Walk.{Walk}
-use Rattle.qp7.specs.declared.Walked.{Walked}
-use Rattle.qp7.specs.declared.Walked.TheVariants.{At, Refused}
 use Rattle.qp7.specs.Walk.{Gathered, nothing, closing, with_block, gathered_to, gathered_from}
-use Rattle.qp7.specs.Inner.{numbers_of, numbers_at, walked_says, Near, RecordsHold, SegmentsHold, Closes, GoesOn}
+use Rattle.qp7.specs.Inner.{numbers_of, numbers_at, Near, RecordsHold, SegmentsHold, Closes, GoesOn}
 use Rattle.qp7.proofs.Closing.{closing_records, closes_unwritten}
+use Rattle.std.specs.Prelude.{Result, Ok, Err}
+use Rattle.refusals.specs.declared.Refusal.{Refusal}
 
 -- one block more
 pub gathered_more : (f : List ℕ) (a n b : ℕ) → gathered_to f a n (b + 1) ≡ onward (gathered_to f a n b) (with_block f a n b)
@@ -25,7 +25,7 @@ unfolding gathered_to
 gathered_more f a n b = ap (gathered_to f a n) (add-one b)
 
 -- a refusal at a block stays
-gathered_stays : (f : List ℕ) (a n b m : ℕ) {why : Refusal} → b ≤ m → gathered_to f a n b ≡ refusal why
+gathered_stays : (f : List ℕ) (a n b m : ℕ) {why : Numbers} → b ≤ m → gathered_to f a n b ≡ refusal why
     → gathered_to f a n m ≡ refusal why
 unfolding gathered_to
 gathered_stays f a n b zero h e = let none : b ≡ 0 = omega arith in ap (gathered_to f a n) (sym none) ∙ e
@@ -57,7 +57,7 @@ stands_answered said walk e =
     let w = went_on said (λ g. answers (numbers_of g)) (sym e) in
     (w.0, w.1, for_the_answer (λ (v : Walk). v ≡ numbers_of w.0) w.2 refl)
 
-pub stands_refused : (said : Said Gathered) {why : Refusal} → refusal why ≡ numbers_at said → said ≡ refusal why
+pub stands_refused : (said : Said Gathered) {why : Numbers} → refusal why ≡ numbers_at said → said ≡ refusal why
 stands_refused (answers g) e = absurd (not_both e)
 stands_refused (refusal why) e = cc
 
@@ -90,17 +90,17 @@ module _ (f : List ℕ) (rec : Recording) (most : Totals) (records segments : Li
         gathered_more f rec.start.0 rec.blocks b
         ∙ ap (λ (said : Said Gathered). onward said (gone_on f rec b)) so.so_far
 
-    module _ (records'' segments'' : List ℕ) (came : Walked)
+    module _ (records'' segments'' : List ℕ) (came : Result Walk Refusal)
         (on : (g : Gathered) → walk ≡ numbers_of g → GoesOn most g (gone_on f rec b g) records' records'' segments' segments'' came) where
       -- one block more
-      pub gathering_goes_on : (next : Walk) → came ≡ At next → ((w : Walk) → walked_says came ≡ answers w → Near rec.blocks (b + 1) w)
+      pub gathering_goes_on : (next : Walk) → came ≡ Ok next → ((w : Walk) → result_says came ≡ answers w → Near rec.blocks (b + 1) w)
           → Gathers f rec most records records'' segments segments'' next (b + 1)
       gathering_goes_on next is near =
           record {
             here = there.0;
             so_far = next_is ∙ there.1;
             stands = there.2;
-            near = near next (ap walked_says is);
+            near = near next (ap result_says is);
             records_held = λ d w. step.records_written d there.0 there.1 (so.records_held d w);
             segments_held = λ d w. step.segments_written d there.0 there.1 (so.segments_held d w);
             untouched = λ p q. ((step.untouched p q).0 ∙ (so.untouched p q).0, (step.untouched p q).1 ∙ (so.untouched p q).1);
@@ -110,14 +110,14 @@ module _ (f : List ℕ) (rec : Recording) (most : Totals) (records segments : Li
           step = on so.here so.stands
 
           there : (g : Gathered) × (gone_on f rec b so.here ≡ answers g) × (next ≡ numbers_of g)
-          there = stands_answered (gone_on f rec b so.here) next (ap walked_says (sym is) ∙ step.answer_is)
+          there = stands_answered (gone_on f rec b so.here) next (ap result_says (sym is) ∙ step.answer_is)
 
       -- a block that is refused
-      pub gathering_stops : (why : Refusal) → came ≡ Refused why → b < rec.blocks
+      pub gathering_stops : (why : Numbers) → came ≡ Err why → b < rec.blocks
           → GoesOn most nothing (gathered_from f rec) records records'' segments segments'' came
       gathering_stops why is h =
           record {
-            answer_is = ap walked_says is ∙ sym (ap numbers_at to);
+            answer_is = ap result_says is ∙ sym (ap numbers_at to);
             records_written = λ d g' e w. absurd (not_both (sym to ∙ e));
             segments_written = λ d g' e w. absurd (not_both (sym to ∙ e));
             untouched = λ p q. ((step.untouched p q).0 ∙ (so.untouched p q).0, (step.untouched p q).1 ∙ (so.untouched p q).1);
@@ -127,7 +127,7 @@ module _ (f : List ℕ) (rec : Recording) (most : Totals) (records segments : Li
           step = on so.here so.stands
 
           refused : up_to f rec (b + 1) ≡ refusal why
-          refused = next_is ∙ stands_refused (gone_on f rec b so.here) (ap walked_says (sym is) ∙ step.answer_is)
+          refused = next_is ∙ stands_refused (gone_on f rec b so.here) (ap result_says (sym is) ∙ step.answer_is)
 
           all : up_to f rec rec.blocks ≡ refusal why
           all = gathered_stays f rec.start.0 rec.blocks (b + 1) rec.blocks (omega arith) refused
@@ -138,7 +138,7 @@ module _ (f : List ℕ) (rec : Recording) (most : Totals) (records segments : Li
     -- all blocks, and the last segment closed
     pub gathering_ends : (segments'' : List ℕ) (r : Walk) → rec.blocks ≡ b
         → ((g : Gathered) → walk ≡ numbers_of g → Closes most.segments g segments' segments'' r)
-        → GoesOn most nothing (gathered_from f rec) records records' segments segments'' (At r)
+        → GoesOn most nothing (gathered_from f rec) records records' segments segments'' (Ok r)
     gathering_ends segments'' r done on =
         record {
           answer_is = ap answers last.walk_is ∙ sym (ap numbers_at to);

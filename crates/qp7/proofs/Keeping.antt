@@ -9,7 +9,7 @@ use lib.ListN.{length, length-append}
 use Rattle.tables.proofs.Cases.{by_equal}
 use Rattle.blocks.specs.Places.{stream_at}
 use Rattle.blocks.specs.Headers.{first_of, count_of, announced_in}
-use Rattle.refusals.specs.declared.Refusal.{Refusal}
+use Rattle.refusals.specs.declared.Numbers.{Numbers}
 use Rattle.refusals.specs.Said.{answers, onward, refusal}
 use Rattle.refusals.proofs.Said.{not_both, by_onward, went_on, for_the_answer}
 use Rattle.whole.specs.declared.Recording.{Recording}
@@ -51,7 +51,7 @@ module _ {P : Gathered → Type 0} (f : List ℕ) (a n : ℕ) (kept : Kept f a n
       block_keeps_it b (omega arith) w.0 g w.2 (walk_keeps_it b (omega arith) w.0 w.1)
 
   -- of m records from g on so many are read, and the next one is refused, where P holds
-  record StopsIn (m : ℕ) (g : Gathered) (why : Refusal) : Type 0 where
+  record StopsIn (m : ℕ) (g : Gathered) (why : Numbers) : Type 0 where
     pub read : ℕ
     pub few : read < m
     pub here : Gathered
@@ -59,7 +59,7 @@ module _ {P : Gathered → Type 0} (f : List ℕ) (a n : ℕ) (kept : Kept f a n
     pub holds : P here
     pub refused : record_at (stream_at f a n) (506 * n) here.place ≡ refusal why
 
-  stop_in : (m : ℕ) (g : Gathered) {why : Refusal} → reads (stream_at f a n) (506 * n) m g ≡ refusal why → P g → StopsIn m g why
+  stop_in : (m : ℕ) (g : Gathered) {why : Numbers} → reads (stream_at f a n) (506 * n) m g ≡ refusal why → P g → StopsIn m g why
   unfolding reads
   stop_in zero g e p = absurd (not_both (sym e))
   stop_in (suc m) g {why} e p =
@@ -77,13 +77,13 @@ module _ {P : Gathered → Type 0} (f : List ℕ) (a n : ℕ) (kept : Kept f a n
       })
 
   -- where the walk stops a record is refused, and P holds
-  pub record Stopped (why : Refusal) : Type 0 where
+  pub record Stopped (why : Numbers) : Type 0 where
     pub here : Gathered
     pub holds : P here
     pub stops : Stops f a n here.place
     pub refused : record_at (stream_at f a n) (506 * n) here.place ≡ refusal why
 
-  pub walk_stops : (b : ℕ) → b ≤ n → {why : Refusal} → gathered_to f a n b ≡ refusal why → Stopped why
+  pub walk_stops : (b : ℕ) → b ≤ n → {why : Numbers} → gathered_to f a n b ≡ refusal why → Stopped why
   unfolding gathered_to
   walk_stops zero h e = absurd (not_both (sym e))
   walk_stops (suc b) h {why} e =

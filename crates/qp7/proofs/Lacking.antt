@@ -9,7 +9,7 @@ use lib.Dec.{leb}
 use Rattle.tables.proofs.Cases.{by_order}
 use Rattle.blocks.specs.Places.{block_at, stream_at}
 use Rattle.blocks.specs.Headers.{Bytes, first_of}
-use Rattle.refusals.specs.declared.Refusal.{Refusal}
+use Rattle.refusals.specs.declared.Numbers.{Numbers}
 use Rattle.refusals.specs.Said.{refusal}
 use Rattle.refusals.proofs.Said.{not_both, by_refusal}
 use Rattle.whole.specs.declared.Recording.{Recording}
@@ -52,7 +52,7 @@ standing_kept f a n bytes =
     }
 
 -- what is said of a record at an even place, where the walk stops
-pub lacks_there : (f : List ℕ) (rec : Recording) (q : ℕ) {why : Refusal} → Stops f rec.start.0 rec.blocks q → q % 2 ≡ 0 → q ≤ 506 * rec.blocks
+pub lacks_there : (f : List ℕ) (rec : Recording) (q : ℕ) {why : Numbers} → Stops f rec.start.0 rec.blocks q → q % 2 ≡ 0 → q ≤ 506 * rec.blocks
     → record_at (stream_in f rec) (506 * rec.blocks) q ≡ refusal why → Lacks f rec why
 unfolding record_at
 lacks_there f rec q stops even inside e =

@@ -9,36 +9,34 @@ use lib.ListN.{length}
 use lib.Dec.{leb}
 use Rattle.tables.specs.Entries.{fronted}
 use Rattle.tables.proofs.Entries.{in_turn_long, fronts_none, fronts_begin, fronts_all}
-use Rattle.refusals.specs.declared.Refusal.{Refusal}
+use Rattle.refusals.specs.declared.Numbers.{Numbers}
 use Rattle.refusals.specs.Numbers.{numbered}
-use Rattle.refusals.specs.Said.{Said, answers, refuses, refusal, demand}
+use Rattle.refusals.specs.Said.{Said, answers, refuses, refusal, demand, result_says}
 use Rattle.refusals.proofs.Said.{passed, went_on, only_outcome_of, for_the_answer, read_from}
 use Rattle.whole.specs.declared.Recording.{Recording}
 use Rattle.detect.specs.declared.Kind.TheVariants.{Qp7}
 use Rattle.whole.specs.Admissions.{ds2_admission}
 use Rattle.qp7.specs.declared.Totals.{Totals}
 use Rattle.qp7.specs.declared.Walk.{Walk}
-use Rattle.qp7.specs.declared.Walked.{Walked}
-use Rattle.qp7.specs.declared.Walked.TheVariants.{Refused as Stopped}
-use Rattle.qp7.specs.declared.Demuxed.{Demuxed}
-use Rattle.qp7.specs.declared.Demuxed.TheVariants.{Tables, Refused}
 use Rattle.qp7.specs.Walk.{Gathered, nothing, gathered_from, qp7_reading}
-use Rattle.qp7.specs.Outcome.{width, entry_of, record_words, segment_words, in_room, in_tables, totals_of, answered, records_after, segments_after, demuxed_says, Demuxes}
-use Rattle.qp7.specs.Inner.{numbers_at, walked_says, GoesOn}
+use Rattle.qp7.specs.Outcome.{width, entry_of, record_words, segment_words, in_room, in_tables, totals_of, answered, records_after, segments_after, Demuxes}
+use Rattle.qp7.specs.Inner.{numbers_at, GoesOn}
 use Rattle.qp7.proofs.Gathering.{stands_answered, stands_refused}
+use Rattle.std.specs.Prelude.{Result, Ok, Err}
+use Rattle.refusals.specs.declared.Refusal.{Refusal}
 
 -- a segment has three words
 pub segment_words_lem : (g : Gathered) → length (segment_words g) ≡ width * length g.closed
 segment_words_lem g = in_turn_long entry_of width (λ x. refl) g.closed
 
 -- a refusal is passed on
-passed_on : (why : Refusal) (records segments : List ℕ)
-    → Demuxes (refusal why) records records segments segments (Refused why)
+passed_on : (why : Numbers) (records segments : List ℕ)
+    → Demuxes (refusal why) records records segments segments (Err why)
 unfolding in_room
 passed_on why records segments = record { answer_is = refl; records_are = refl; segments_are = refl }
 
 -- the same outcome under other names
-outcome_as : {said said' : Said Gathered} {records records' segments segments' : List ℕ} {answer answer' : Demuxed} → said ≡ said'
+outcome_as : {said said' : Said Gathered} {records records' segments segments' : List ℕ} {answer answer' : Result Totals Refusal} → said ≡ said'
     → answer ≡ answer' → Demuxes said' records records' segments segments' answer' → Demuxes said records records' segments segments' answer
 outcome_as p q d = rw (p, q) d
 
@@ -61,8 +59,8 @@ module _ (g : Gathered) (forRecords forSegments : ℕ) where
   room_for_all l h = simp (le-leb (length g.records) forRecords l, le-leb (length g.closed) forSegments h)
 
 -- an outcome by what comes of the room
-outcome_by : {reading : Said Gathered} {records records' segments segments' : List ℕ} {answer : Demuxed} (in-room : Said Gathered)
-    → in_tables reading records segments ≡ in-room → demuxed_says answer ≡ answered in-room → records' ≡ records_after in-room records
+outcome_by : {reading : Said Gathered} {records records' segments segments' : List ℕ} {answer : Result Totals Refusal} (in-room : Said Gathered)
+    → in_tables reading records segments ≡ in-room → result_says answer ≡ answered in-room → records' ≡ records_after in-room records
     → segments' ≡ segments_after in-room segments → Demuxes reading records records' segments segments' answer
 outcome_by {reading} {records} {records'} {segments} {segments'} {answer} in-room e answer_is records_are segments_are =
     record {
@@ -74,29 +72,29 @@ outcome_by {reading} {records} {records'} {segments} {segments'} {answer} in-roo
 -- what a call does with a recording that was counted
 module _ (said : Said Gathered) (walk : Walk) (counted : answers walk ≡ numbers_at said) (records segments : List ℕ) where
   -- too little room for its records
-  pub few_records : length records < walk.records → Demuxes said records records segments segments (Refused (numbered 8 walk.records))
+  pub few_records : length records < walk.records → Demuxes said records records segments segments (Err (numbered 8 walk.records))
   few_records h =
       let w = stands_answered said walk counted in
       let many : walk.records ≡ length w.0.records = ap (λ (v : Walk). v.records) w.2 in
-      outcome_as w.1 (ap (λ (n : ℕ). Refused (numbered 8 n)) many)
+      outcome_as w.1 (ap (λ (n : ℕ). Err (numbered 8 n)) many)
       (outcome_by (refuses 8 (length w.0.records))
       (room_8 w.0 (length records) (length segments / width) (omega (arith, h, many))) refl refl refl)
 
   -- too little room for its segments
   pub few_segments : walk.records ≤ length records → length segments / width < walk.segments
-      → Demuxes said records records segments segments (Refused (numbered 9 walk.segments))
+      → Demuxes said records records segments segments (Err (numbered 9 walk.segments))
   few_segments l h =
       let w = stands_answered said walk counted in
       let many : walk.segments ≡ length w.0.closed = ap (λ (v : Walk). v.segments) w.2 in
       let places : walk.records ≡ length w.0.records = ap (λ (v : Walk). v.records) w.2 in
-      outcome_as w.1 (ap (λ (n : ℕ). Refused (numbered 9 n)) many)
+      outcome_as w.1 (ap (λ (n : ℕ). Err (numbered 9 n)) many)
       (outcome_by (refuses 9 (length w.0.closed))
       (room_9 w.0 (length records) (length segments / width) (omega (arith, l, places)) (omega (arith, h, many))) refl refl refl)
 
   -- room for all
-  pub all_written : (records' segments' : List ℕ) (r : Walked) → walk.records ≤ length records → walk.segments ≤ length segments / width
+  pub all_written : (records' segments' : List ℕ) (r : Result Walk Refusal) → walk.records ≤ length records → walk.segments ≤ length segments / width
       → GoesOn (record { records = walk.records; segments = walk.segments }) nothing said records records' segments segments' r
-      → Demuxes said records records' segments segments' (Tables (record { records = walk.records; segments = walk.segments }))
+      → Demuxes said records records' segments segments' (Ok (record { records = walk.records; segments = walk.segments }))
   all_written records' segments' r l h on =
       let w = stands_answered said walk counted in
       let g = w.0 in
@@ -108,22 +106,22 @@ module _ (said : Said Gathered) (walk : Walk) (counted : answers walk ≡ number
       let table : segments' ≡ fronted (segment_words g) segments =
       fronts_all (width * walk.segments) (segment_words g) (omega (arith, entries, segment_words_lem g))
       (on.segments_written segments g w.1 (fronts_begin entry_of segments (width * walk.segments))) in
-      outcome_as w.1 (ap (λ (v : Walk). Tables (record { records = v.records; segments = v.segments })) w.2)
+      outcome_as w.1 (ap (λ (v : Walk). Ok (record { records = v.records; segments = v.segments })) w.2)
       (outcome_by (answers g) (room_for_all g (length records) (length segments / width) (omega (arith, l, places)) (omega (arith, h, entries)))
       refl front table)
 
 -- what the counting pass says and leaves
-module _ (said : Said Gathered) (records records' segments segments' : List ℕ) (r : Walked)
+module _ (said : Said Gathered) (records records' segments segments' : List ℕ) (r : Result Walk Refusal)
     (on : GoesOn (record { records = 0; segments = 0 }) nothing said records records' segments segments' r) where
   -- its refusal is the call's, and it has changed nothing
-  pub counting_refused : (why : Refusal) → r ≡ Stopped why → Demuxes said records records' segments segments' (Refused why)
+  pub counting_refused : (why : Numbers) → r ≡ Err why → Demuxes said records records' segments segments' (Err why)
   counting_refused why is =
-      let to : said ≡ refusal why = stands_refused said (ap walked_says (sym is) ∙ on.answer_is) in
+      let to : said ≡ refusal why = stands_refused said (ap result_says (sym is) ∙ on.answer_is) in
       let kept = on.untouched refl refl in
       rw (to, kept.0, kept.1) (passed_on why records segments)
 
   -- it has changed nothing before the tables are written
-  pub counting_kept : (records'' segments'' : List ℕ) (answer : Demuxed) → Demuxes said records' records'' segments' segments'' answer
+  pub counting_kept : (records'' segments'' : List ℕ) (answer : Result Totals Refusal) → Demuxes said records' records'' segments' segments'' answer
       → Demuxes said records records'' segments segments'' answer
   counting_kept records'' segments'' answer d =
       let kept = on.untouched refl refl in
@@ -133,20 +131,20 @@ module _ (said : Said Gathered) (records records' segments segments' : List ℕ)
 -- what comes of the admission
 module _ (f : List ℕ) (records segments : List ℕ) where
   -- a refusal is passed on
-  pub not_taken : (why : Refusal) → refusal why ≡ ds2_admission f Qp7
-      → Demuxes (qp7_reading f) records records segments segments (Refused why)
+  pub not_taken : (why : Numbers) → refusal why ≡ ds2_admission f Qp7
+      → Demuxes (qp7_reading f) records records segments segments (Err why)
   unfolding qp7_reading
   not_taken why e = rw (← e) (passed_on why records segments)
 
   -- a recording goes on to be read
-  pub taken : (rec : Recording) (records' segments' : List ℕ) (answer : Demuxed) → answers rec ≡ ds2_admission f Qp7
+  pub taken : (rec : Recording) (records' segments' : List ℕ) (answer : Result Totals Refusal) → answers rec ≡ ds2_admission f Qp7
       → Demuxes (gathered_from f rec) records records' segments segments' answer → Demuxes (qp7_reading f) records records' segments segments' answer
   unfolding qp7_reading
   taken rec records' segments' answer e d = rw (← e) d
 
 -- what an accepted call has read, and that there was room for it
-pub accepted_read : {reading : Said Gathered} {records records' segments segments' : List ℕ} {answer : Demuxed}
-    → Demuxes reading records records' segments segments' answer → (totals : Totals) → demuxed_says answer ≡ answers totals
+pub accepted_read : {reading : Said Gathered} {records records' segments segments' : List ℕ} {answer : Result Totals Refusal}
+    → Demuxes reading records records' segments segments' answer → (totals : Totals) → result_says answer ≡ answers totals
     → (g : Gathered) × (reading ≡ answers g) × (totals ≡ totals_of g) × (length g.records ≤ length records)
     × (length g.closed ≤ length segments / width) × (in_tables reading records segments ≡ answers g)
 unfolding in_room
@@ -170,16 +168,16 @@ accepted_read {reading} {records} {records'} {segments} {segments'} {answer} d t
     )
 
 -- an answer is read back from what it says
-demuxed_back : (x : Demuxed) → read_from Tables Refused (demuxed_says x) ≡ x
-demuxed_back (Tables totals) = refl
-demuxed_back (Refused why) = refl
+demuxed_back : (x : Result Totals Refusal) → read_from Ok Err (result_says x) ≡ x
+demuxed_back (Ok totals) = refl
+demuxed_back (Err why) = refl
 
 -- what is seen of an outcome
 abbrev pub Seen : Type 0
-Seen = Demuxed × List ℕ × List ℕ
+Seen = Result Totals Refusal × List ℕ × List ℕ
 
 -- two outcomes for one reading and the same tables are the same
-pub only_outcome : {reading : Said Gathered} {records records₁ records₂ segments segments₁ segments₂ : List ℕ} {one other : Demuxed}
+pub only_outcome : {reading : Said Gathered} {records records₁ records₂ segments segments₁ segments₂ : List ℕ} {one other : Result Totals Refusal}
     → Demuxes reading records records₁ segments segments₁ one → Demuxes reading records records₂ segments segments₂ other
     → ◌≡◌ {A = Seen} (one, records₁, segments₁) (other, records₂, segments₂)
-only_outcome d e = only_outcome_of demuxed_says (read_from Tables Refused) demuxed_back d.answer_is e.answer_is d.records_are e.records_are d.segments_are e.segments_are
+only_outcome d e = only_outcome_of result_says (read_from Ok Err) demuxed_back d.answer_is e.answer_is d.records_are e.records_are d.segments_are e.segments_are

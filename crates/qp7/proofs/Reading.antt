@@ -8,15 +8,15 @@ use native.Mathlib.Omega.{arith}
 use lib.ListN.{length, length-append}
 use Rattle.tables.specs.Inner.{Puts}
 use Rattle.tables.proofs.Entries.{fronts_more}
-use Rattle.refusals.specs.declared.Refusal.{Refusal}
+use Rattle.refusals.specs.declared.Numbers.{Numbers}
 use Rattle.refusals.specs.Said.{Said, answers, onward, refusal}
 use Rattle.refusals.proofs.Said.{not_both, went_on, for_the_answer}
 use Rattle.qp7.specs.declared.Walk.{Walk}
-use Rattle.qp7.specs.declared.Walked.TheVariants.{At, Refused}
 use Rattle.qp7.specs.Records.{record_at}
 use Rattle.qp7.specs.Walk.{Gathered, noted, reads}
 use Rattle.qp7.specs.Inner.{numbers_of, numbers_at, RecordsHold, ReadsOn}
 use Rattle.qp7.proofs.Standing.{stands_by}
+use Rattle.std.specs.Prelude.{Result, Ok, Err}
 
 -- k of `count` records were read from g on, the last up to `place`: what was gathered, and what is left of it to be read
 pub record Came (s : ℕ → ℕ) (long count most : ℕ) (g : Gathered) (records records' : List ℕ) (place k : ℕ) : Type 0 where
@@ -105,8 +105,8 @@ module _ (s : ℕ → ℕ) (long count most : ℕ) (g : Gathered) (records : Lis
         entry = subst (λ (q : ℕ). Puts records' (length at.records) most (q ∷ []) records'') (sym came.place_is) there
 
     -- a record that cannot be read
-    pub reading_stops : (why : Refusal) → k < count → refusal why ≡ record_at s long place
-        → ReadsOn s long count most g records records' (Refused why)
+    pub reading_stops : (why : Numbers) → k < count → refusal why ≡ record_at s long place
+        → ReadsOn s long count most g records records' (Err why)
     reading_stops why h refused =
         record {
           answer_is = sym (ap numbers_at rest);
@@ -119,7 +119,7 @@ module _ (s : ℕ → ℕ) (long count most : ℕ) (g : Gathered) (records : Lis
 
     -- all records are read
     pub reading_ends : (walk : Walk) → k ≡ count → walk.place.0 ≡ place → walk.records ≡ length g.records + count
-        → walk.segments ≡ length g.closed → walk.first ≡ g.first → ReadsOn s long count most g records records' (At walk)
+        → walk.segments ≡ length g.closed → walk.first ≡ g.first → ReadsOn s long count most g records records' (Ok walk)
     reading_ends walk all place_is many segments first =
         record {
           answer_is = ap answers stands ∙ sym (ap numbers_at rest);

@@ -8,13 +8,13 @@ use borrow.Author.Tests.{le-leb, lt-leb, leb-true}
 use lib.Dec.{leb}
 use Rattle.tables.proofs.Cases.{by_order}
 use Rattle.blocks.specs.Headers.{flag_of}
-use Rattle.refusals.specs.declared.Refusal.{Refusal}
+use Rattle.refusals.specs.declared.Numbers.{Numbers}
 use Rattle.refusals.specs.Numbers.{lacking}
-use Rattle.refusals.specs.Said.{Said, answers, refusal}
+use Rattle.refusals.specs.Said.{Said, answers, refusal, result_says}
 use Rattle.refusals.proofs.Said.{passed_by, not_both}
-use Rattle.qp7.specs.declared.Record.{Record}
-use Rattle.qp7.specs.declared.Record.TheVariants.{Is, Refused}
-use Rattle.qp7.specs.Records.{record_size, absent_of, record_at, record_says}
+use Rattle.qp7.specs.Records.{record_size, absent_of, record_at}
+use Rattle.std.specs.Prelude.{Result, Ok, Err}
+use Rattle.refusals.specs.declared.Refusal.{Refusal}
 
 -- bit 7 is on
 pub long_size : (second : ℕ) → 128 ≤ second → record_size second ≡ 56
@@ -64,13 +64,13 @@ module _ (s : ℕ → ℕ) (long q : ℕ) where
       (is, omega (arith, is, inside))
 
 -- why a record cannot be read, as the code asks it
-pub why_is : {said : Said ℕ} (found : Record) (why asked : Refusal) → found ≡ Refused why → ((w : Refusal) → found ≡ Refused w → asked ≡ w)
-    → record_says found ≡ said → refusal asked ≡ said
-why_is {said} found why asked is ask says = ap (λ (r : Refusal). refusal r) (ask why is) ∙ ap record_says (sym is) ∙ says
+pub why_is : {said : Said ℕ} (found : Result ℕ Refusal) (why asked : Numbers) → found ≡ Err why → ((w : Numbers) → found ≡ Err w → asked ≡ w)
+    → result_says found ≡ said → refusal asked ≡ said
+why_is {said} found why asked is ask says = ap (λ (r : Numbers). refusal r) (ask why is) ∙ ap result_says (sym is) ∙ says
 
 -- a record is refused for one reason, and one that is read for none
-pub same_why : (why other : Refusal) → ◌≡◌ {A = Record} (Refused why) (Refused other) → why ≡ other
+pub same_why : (why other : Numbers) → ◌≡◌ {A = Result ℕ Refusal} (Err why) (Err other) → why ≡ other
 same_why why other e = cc
 
-pub not_refused : (size : ℕ) (why : Refusal) → ◌≡◌ {A = Record} (Is size) (Refused why) → ⊥
-not_refused size why e = not_both {a = size} (sym (ap record_says e))
+pub not_refused : (size : ℕ) (why : Numbers) → ◌≡◌ {A = Result ℕ Refusal} (Ok size) (Err why) → ⊥
+not_refused size why e = not_both {a = size} (sym (ap result_says e))

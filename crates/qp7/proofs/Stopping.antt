@@ -5,7 +5,7 @@ use mathlib.Core.List.{List}
 use Prim.Native.Nat.{ℕ}
 use native.Mathlib.Omega.{arith}
 use Rattle.blocks.specs.Headers.{Bytes}
-use Rattle.refusals.specs.declared.Refusal.{Refusal}
+use Rattle.refusals.specs.declared.Numbers.{Numbers}
 use Rattle.refusals.specs.Said.{answers, refusal}
 use Rattle.refusals.proofs.Said.{not_both, by_onward}
 use Rattle.whole.specs.declared.Recording.{Recording}
@@ -15,7 +15,7 @@ use Rattle.qp7.proofs.Keeping.{walk_stops}
 use Rattle.qp7.proofs.Lacking.{Stands, standing_kept, lacks_there}
 
 -- so of any recording whose records cannot all be read
-pub gathered_lacks : (f : List ℕ) (rec : Recording) → Bytes f → {why : Refusal} → gathered_from f rec ≡ refusal why
+pub gathered_lacks : (f : List ℕ) (rec : Recording) → Bytes f → {why : Numbers} → gathered_from f rec ≡ refusal why
     → Lacks f rec why
 unfolding gathered_from
 gathered_lacks f rec bytes e =

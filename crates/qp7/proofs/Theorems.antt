@@ -12,9 +12,9 @@ use Rattle.tables.specs.Entries.{fronted}
 use Rattle.blocks.specs.Places.{stream_at}
 use Rattle.blocks.specs.Stream.{joined}
 use Rattle.blocks.specs.Headers.{Bytes}
-use Rattle.refusals.specs.declared.Refusal.{Refusal}
+use Rattle.refusals.specs.declared.Numbers.{Numbers}
 use Rattle.refusals.specs.Numbers.{numbered, OfRecord}
-use Rattle.refusals.specs.Said.{Said, answers, refuses, refusal, is_among}
+use Rattle.refusals.specs.Said.{Said, answers, refuses, refusal, is_among, result_says}
 use Rattle.refusals.proofs.Said.{not_both, by_refusal, by_onward, for_the_answer}
 use Rattle.refusals.proofs.Numbered.{not_of_record}
 use Rattle.whole.specs.declared.Recording.{Recording}
@@ -26,10 +26,9 @@ use Rattle.frames.specs.Cut.{fetched_bytes}
 use Rattle.frames.proofs.Shown.{can_be_fetched}
 use Rattle.frames.proofs.Theorems.{fill_then_show_joined}
 use Rattle.qp7.specs.declared.Totals.{Totals}
-use Rattle.qp7.specs.declared.Demuxed.{Demuxed}
 use Rattle.qp7.specs.Walk.{Gathered, gathered_from, qp7_reading, place_at, size_at, segment_at, records_before}
 use Rattle.qp7.specs.Lacking.{Lacks}
-use Rattle.qp7.specs.Outcome.{record_words, segment_words, in_room, in_tables, totals_of, answered, records_after, segments_after, demuxed_says, Demuxes, TablesHold}
+use Rattle.qp7.specs.Outcome.{record_words, segment_words, in_room, in_tables, totals_of, answered, records_after, segments_after, Demuxes, TablesHold}
 use Rattle.qp7.proofs.Records.{size_bounds}
 use Rattle.qp7.proofs.Keeping.{records_many, admitted_first}
 use Rattle.qp7.proofs.Lying.{gathered_lie}
@@ -39,6 +38,8 @@ use Rattle.qp7.proofs.Words.{tables_by}
 use Rattle.qp7.proofs.Outcome.{segment_words_lem, room_8, room_9, room_for_all, accepted_read, Seen, only_outcome}
 use Rattle.qp7.proofs.demux_ds2_qp7.Kinds as qp7
 use Rattle.qp7.proofs.demux_ds2_qp7.Reads as qp7-reads
+use Rattle.std.specs.Prelude.{Result, Ok, Err}
+use Rattle.refusals.specs.declared.Refusal.{Refusal}
 
 -- The records of an accepted file are as many as the count bytes of all whole blocks add up to.
 pub records_announced : (f : List ℕ) (g : Gathered) → qp7_reading f ≡ answers g
@@ -89,7 +90,7 @@ module _ (f : List ℕ) (g : Gathered) (e : qp7_reading f ≡ answers g) where
 -- A file that is refused by 4 or 5 was admitted, and the refusal says how much is missing at the place where the walk stops. By 5: the record's
 -- size, by the byte after its place; and the bytes by which it would end past the stream's end, 506 bytes for each whole block. By 4: size 0,
 -- and 2 bytes absent, the place being the stream's end.
-pub record_lacks : (f : List ℕ) → Bytes f → (why : Refusal) → qp7_reading f ≡ refusal why → OfRecord why.number
+pub record_lacks : (f : List ℕ) → Bytes f → (why : Numbers) → qp7_reading f ≡ refusal why → OfRecord why.number
     → (rec : Recording) × (ds2_admission f Qp7 ≡ answers rec) × Lacks f rec why
 unfolding qp7_reading is_among
 record_lacks f bytes why e of-record =
@@ -97,10 +98,10 @@ record_lacks f bytes why e of-record =
     (λ turned. absurd (not_of_record (ds2_admitting f Qp7) refl refl turned of-record))
     (λ rec taken rest. (rec, taken, gathered_lacks f rec bytes rest))
 
-module _ (reading : Said Gathered) (records records' segments segments' : List ℕ) (answer : Demuxed)
+module _ (reading : Said Gathered) (records records' segments segments' : List ℕ) (answer : Result Totals Refusal)
     (d : Demuxes reading records records' segments segments' answer) where
   -- A refused call changes nothing.
-  pub refused_changes_nothing : (why : Refusal) → demuxed_says answer ≡ refusal why → (records' ≡ records) × (segments' ≡ segments)
+  pub refused_changes_nothing : (why : Numbers) → result_says answer ≡ refusal why → (records' ≡ records) × (segments' ≡ segments)
   refused_changes_nothing why e =
       let kept = refused (in_tables reading records segments) (sym d.answer_is ∙ e) in
       (d.records_are ∙ kept.0, d.segments_are ∙ kept.1)
@@ -111,7 +112,7 @@ module _ (reading : Said Gathered) (records records' segments segments' : List �
       refused (refusal why) e = (refl, refl)
 
   -- A call that is refused by 4 or 5 is refused as its reading is: with the place, the record's size and the bytes that are absent.
-  pub refused_as_read : (why : Refusal) → demuxed_says answer ≡ refusal why → OfRecord why.number → reading ≡ refusal why
+  pub refused_as_read : (why : Numbers) → result_says answer ≡ refusal why → OfRecord why.number → reading ≡ refusal why
   unfolding in_room
   refused_as_read why e of-record =
       by_onward (in_tables reading records segments) _ (sym d.answer_is ∙ e)
@@ -125,12 +126,12 @@ module _ (reading : Said Gathered) (records records' segments segments' : List �
     where
       not_of_room : {number beside : ℕ} → 8 ≤ number → numbered number beside ≡ why → ⊥
       not_of_room high is =
-          let same = ap (λ (w : Refusal). w.number) is in
+          let same = ap (λ (w : Numbers). w.number) is in
           ⊎_elim (λ four. omega (arith, high, same, four)) (λ five. omega (arith, high, same, five)) of-record
 
   -- An accepted call answers how many records and segments were gathered, and leaves their words over the fronts of the two tables, in
   -- which there is room for them.
-  pub accepted_writes : (totals : Totals) → demuxed_says answer ≡ answers totals
+  pub accepted_writes : (totals : Totals) → result_says answer ≡ answers totals
       → (g : Gathered) × (reading ≡ answers g) × (totals ≡ totals_of g) × (records' ≡ fronted (record_words g) records)
       × (segments' ≡ fronted (segment_words g) segments) × (length (record_words g) ≤ length records)
       × (length (segment_words g) ≤ length segments)
@@ -147,7 +148,7 @@ module _ (reading : Said Gathered) (records records' segments segments' : List �
 
   -- Where they stand: word k of the record table is record k's place, and words 3 i, 3 i + 1 and 3 i + 2 of the segment table are segment
   -- i's first record, how many it has and its reset. Every other word of both is as it was, and so are the lengths.
-  pub tables_hold : (totals : Totals) (g : Gathered) → demuxed_says answer ≡ answers totals → reading ≡ answers g
+  pub tables_hold : (totals : Totals) (g : Gathered) → result_says answer ≡ answers totals → reading ≡ answers g
       → TablesHold g records records' segments segments'
   tables_hold totals g e is =
       let w = accepted_writes totals e in

@@ -1,14 +1,13 @@
 -- What only contracts of inner functions speak of: how the code's walk stands for what was gathered, and what it leaves in the two tables
 -- when it writes as many records and segments as it is told, which may be none. Assumes nothing.
-use Rattle.std.specs.Prelude.{ℕ, ◌*◌, ◌≤◌, ◌≡◌, List, length}
+use Rattle.std.specs.Prelude.{ℕ, ◌*◌, ◌≤◌, ◌≡◌, List, length, Result, Ok, Err}
 use Rattle.tables.specs.Inner.{Fronts}
-use Rattle.refusals.specs.Said.{Said, answers, refusal, onward}
+use Rattle.refusals.specs.Said.{Said, answers, refusal, onward, result_says}
 use Rattle.qp7.specs.declared.Totals.{Totals}
 use Rattle.qp7.specs.declared.Walk.{Walk}
-use Rattle.qp7.specs.declared.Walked.{Walked}
-use Rattle.qp7.specs.declared.Walked.TheVariants.{At, Refused}
 use Rattle.qp7.specs.Walk.{Gathered, closing, reads}
 use Rattle.qp7.specs.Outcome.{width, record_words, segment_words}
+use Rattle.refusals.specs.declared.Refusal.{Refusal}
 
 -- the code counts what the definition lists
 abbrev pub numbers_of : Gathered → Walk
@@ -22,11 +21,6 @@ numbers_of g =
 
 abbrev pub numbers_at : Said Gathered → Said Walk
 numbers_at said = onward said (λ g. answers (numbers_of g))
-
--- the code's answer, read so
-abbrev pub walked_says : Walked → Said Walk
-walked_says (At walk) = answers walk
-walked_says (Refused why) = refusal why
 
 -- after b of n blocks: the read place is in the stream, a block has at most 255 records and closes at most one segment
 pub record Near (n b : ℕ) (walk : Walk) : Type 0 where
@@ -42,8 +36,8 @@ abbrev pub SegmentsHold : ℕ → Gathered → List ℕ → List ℕ → Type 0
 SegmentsHold most g segments segments' = Fronts segments (width * most) (segment_words g) segments'
 
 -- n records are read from where g stands: what is answered, and what is left in the record table if that held g's places over some d
-pub record ReadsOn (s : ℕ → ℕ) (long n most : ℕ) (g : Gathered) (records records' : List ℕ) (r : Walked) : Type 0 where
-  pub answer_is : walked_says r ≡ numbers_at (reads s long n g)
+pub record ReadsOn (s : ℕ → ℕ) (long n most : ℕ) (g : Gathered) (records records' : List ℕ) (r : Result Walk Refusal) : Type 0 where
+  pub answer_is : result_says r ≡ numbers_at (reads s long n g)
   pub written : (d : List ℕ) (g' : Gathered) → reads s long n g ≡ answers g' → RecordsHold most g d records → RecordsHold most g' d records'
   pub untouched : most ≡ 0 → records' ≡ records
 
@@ -53,8 +47,8 @@ pub record Closes (most : ℕ) (g : Gathered) (segments segments' : List ℕ) (r
   pub written : (d : List ℕ) → SegmentsHold most g d segments → SegmentsHold most (closing g) d segments'
 
 -- and for both tables, where the walk goes on from g to what `to` says
-pub record GoesOn (most : Totals) (g : Gathered) (to : Said Gathered) (records records' segments segments' : List ℕ) (r : Walked) : Type 0 where
-  pub answer_is : walked_says r ≡ numbers_at to
+pub record GoesOn (most : Totals) (g : Gathered) (to : Said Gathered) (records records' segments segments' : List ℕ) (r : Result Walk Refusal) : Type 0 where
+  pub answer_is : result_says r ≡ numbers_at to
   pub records_written : (d : List ℕ) (g' : Gathered) → to ≡ answers g' → RecordsHold most.records g d records
       → RecordsHold most.records g' d records'
   pub segments_written : (d : List ℕ) (g' : Gathered) → to ≡ answers g' → SegmentsHold most.segments g d segments

@@ -3,7 +3,7 @@
 use Rattle.std.specs.Prelude.{ℕ, ◌+◌, ◌*◌, ◌%◌, ◌≤◌, ◌<◌, ◌≡◌, List}
 use Rattle.blocks.specs.Places.{stream_at}
 use Rattle.blocks.specs.Headers.{first_of, count_of}
-use Rattle.refusals.specs.declared.Refusal.{Refusal}
+use Rattle.refusals.specs.declared.Numbers.{Numbers}
 use Rattle.refusals.specs.Said.{answers}
 use Rattle.whole.specs.declared.Recording.{Recording}
 use Rattle.whole.specs.Admissions.{stream_in}
@@ -27,7 +27,7 @@ pub record Stops (f : List ℕ) (a n place : ℕ) : Type 0 where
 -- what a refusal says of a recording's stream, which has 506 bytes for each whole block. By 5: the record has that size by the byte after its
 -- place, it would end so many bytes past the stream's end, which are an even number and at least one, and two at least are there. By 4: none
 -- of the two bytes is there that would tell the size
-pub record Lacks (f : List ℕ) (rec : Recording) (why : Refusal) : Type 0 where
+pub record Lacks (f : List ℕ) (rec : Recording) (why : Numbers) : Type 0 where
   pub stops : Stops f rec.start.0 rec.blocks why.beside
   pub cut : why.number ≡ 5
       → (why.size ≡ record_size (stream_in f rec (why.beside + 1))) × (why.beside + why.size ≡ 506 * rec.blocks + why.absent)

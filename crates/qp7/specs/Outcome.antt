@@ -1,13 +1,12 @@
 -- What the QP7 call answers and leaves in the two lent tables, given its reading: refusals 8 and 9 with the records or segments needed, or
 -- both tables. A refused call leaves everything as it was. Assumes nothing.
-use Rattle.std.specs.Prelude.{ℕ, ◌+◌, ◌*◌, ◌/◌, ◌≤◌, ◌<◌, ◌≡◌, List, [], ◌∷◌, length, get_or, leb}
+use Rattle.std.specs.Prelude.{ℕ, ◌+◌, ◌*◌, ◌/◌, ◌≤◌, ◌<◌, ◌≡◌, List, [], ◌∷◌, length, get_or, leb, Result, Ok, Err}
 use Rattle.tables.specs.Entries.{in_turn, fronted}
-use Rattle.refusals.specs.Said.{Said, answers, refusal, demand, onward}
+use Rattle.refusals.specs.Said.{Said, answers, refusal, demand, onward, result_says}
 use Rattle.qp7.specs.declared.Segment.{Segment}
 use Rattle.qp7.specs.declared.Totals.{Totals}
-use Rattle.qp7.specs.declared.Demuxed.{Demuxed}
-use Rattle.qp7.specs.declared.Demuxed.TheVariants.{Tables, Refused}
 use Rattle.qp7.specs.Walk.{Gathered, place_at, segment_at}
+use Rattle.refusals.specs.declared.Refusal.{Refusal}
 
 -- a segment's entry: so many words
 abbrev pub width : ℕ
@@ -51,14 +50,9 @@ abbrev pub segments_after : Said Gathered → List ℕ → List ℕ
 segments_after (answers g) segments = fronted (segment_words g) segments
 segments_after (refusal why) segments = segments
 
--- the code's answer, read so
-abbrev pub demuxed_says : Demuxed → Said Totals
-demuxed_says (Tables totals) = answers totals
-demuxed_says (Refused why) = refusal why
-
 -- the call's outcome is the definition's: answer and both tables
-pub record Demuxes (reading : Said Gathered) (records records' segments segments' : List ℕ) (answer : Demuxed) : Type 0 where
-  pub answer_is : demuxed_says answer ≡ answered (in_tables reading records segments)
+pub record Demuxes (reading : Said Gathered) (records records' segments segments' : List ℕ) (answer : Result Totals Refusal) : Type 0 where
+  pub answer_is : result_says answer ≡ answered (in_tables reading records segments)
   pub records_are : records' ≡ records_after (in_tables reading records segments) records
   pub segments_are : segments' ≡ segments_after (in_tables reading records segments) segments
 

@@ -1,11 +1,10 @@
 -- A QP7 record: how long it is by its second byte, when it cannot be read, and how many bytes are absent then.
 -- Assumes nothing.
-use Rattle.std.specs.Prelude.{ℕ, ◌+◌, ◌-◌, cond, leb}
+use Rattle.std.specs.Prelude.{ℕ, ◌+◌, ◌-◌, cond, leb, Result, Ok, Err}
 use Rattle.blocks.specs.Headers.{flag_of}
 use Rattle.refusals.specs.Numbers.{lacking}
-use Rattle.refusals.specs.Said.{Said, answers, refusal, demand_by}
-use Rattle.qp7.specs.declared.Record.{Record}
-use Rattle.qp7.specs.declared.Record.TheVariants.{Is, Refused}
+use Rattle.refusals.specs.Said.{Said, answers, refusal, demand_by, result_says}
+use Rattle.refusals.specs.declared.Refusal.{Refusal}
 
 -- 56 bytes if bit 7 of the second byte is 1, else 12
 unfoldable pub record_size : ℕ → ℕ
@@ -22,8 +21,3 @@ record_at s long q =
     demand_by (leb (q + 2) long) (lacking 4 q 0 (absent_of long q 2))
     (demand_by (leb (q + record_size (s (q + 1))) long) (lacking 5 q (record_size (s (q + 1))) (absent_of long q (record_size (s (q + 1)))))
     (answers (record_size (s (q + 1)))))
-
--- the code's answer, read so
-abbrev pub record_says : Record → Said ℕ
-record_says (Is size) = answers size
-record_says (Refused why) = refusal why

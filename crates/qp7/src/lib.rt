@@ -5,17 +5,17 @@
 
 ghost use Rattle.std.specs.Prelude.{◌≡◌, ◌+◌, ◌*◌, ◌<◌, ◌≤◌, ◌^◌, max, [], ◌∷◌, length};
 ghost use Rattle.tables.specs.Inner.{Puts};
-ghost use Rattle.refusals.specs.Said.{answers};
+ghost use Rattle.refusals.specs.Said.{answers, result_says};
 ghost use Rattle.whole.specs.Admissions.{Sound, stream_in};
-ghost use Rattle.qp7.specs.Records.{record_size, record_at, record_says};
-ghost use Rattle.qp7.specs.Inner.{numbers_of, numbers_at, walked_says, Near, ReadsOn, Closes, GoesOn};
+ghost use Rattle.qp7.specs.Records.{record_size, record_at};
+ghost use Rattle.qp7.specs.Inner.{numbers_of, numbers_at, Near, ReadsOn, Closes, GoesOn};
 ghost use Rattle.qp7.specs.Walk.{Gathered, nothing, with_block, gathered_from, qp7_reading};
 ghost use Rattle.qp7.specs.Outcome.{width, entry_of, Demuxes};
 
 use blocks::{PAYLOAD, StreamPlace};
 use detect::Kind;
 use refusals::Refusal;
-use whole::{Admission, Recording};
+use whole::Recording;
 
 // The size of a record whose second byte has bit 7 off, and on.
 const SHORT: usize = 12;
@@ -25,13 +25,6 @@ const LONG: usize = 56;
 // The words of a segment's entry.
 pub const ENTRY: usize = 3;
 
-// A record's size, or why it cannot be read.
-#[derive(Clone, Copy)]
-enum Record {
-    Is(usize),
-    Refused(Refusal),
-}
-
 // Where the walk stands: the read place, how many records were read and how many segments closed, and the number of the open segment's
 // first record. Public for the crates above.
 #[derive(Clone, Copy)]
@@ -40,13 +33,6 @@ pub struct Walk {
     pub records: usize,
     pub segments: usize,
     pub first: usize,
-}
-
-// Where the walk stands after some records or blocks, or why it ended. Public for the crates above.
-#[derive(Clone, Copy)]
-pub enum Walked {
-    At(Walk),
-    Refused(Refusal),
 }
 
 // A segment: the number of its first record, how many it has, and 1 if the decoder is to be reset before it.
@@ -64,13 +50,6 @@ pub struct Totals {
     pub segments: usize,
 }
 
-// How many records and segments were handed out, or why the call refuses.
-#[derive(Clone, Copy)]
-pub enum Demuxed {
-    Tables(Totals),
-    Refused(Refusal),
-}
-
 // A record's size by its second byte.
 fn size_of(second: u8) -> usize
     ensures { (result ≡ record_size second) × (result ≤ 56) }
@@ -79,40 +58,28 @@ fn size_of(second: u8) -> usize
 }
 
 // The record at a place of the stream.
-fn record_at(file: &[u8], recording: Recording, at: StreamPlace) -> Record
+fn record_at(file: &[u8], recording: Recording, at: StreamPlace) -> Result<usize, Refusal>
     requires sound { Sound file.now recording }
     requires near { at.0 ≤ 506 * recording.blocks }
-    ensures { record_says result ≡ record_at (stream_in file.now recording) (506 * recording.blocks) at.0 }
+    ensures { result_says result ≡ record_at (stream_in file.now recording) (506 * recording.blocks) at.0 }
 {
-    let start = recording.start;
-    let blocks = recording.blocks;
-    let place = at.0;
-    let left = PAYLOAD * blocks - place;
+    let left = PAYLOAD * recording.blocks - at.0;
     if left < 2 {
-        return Record::Refused(Refusal::selector(at, 2 - left));
+        return Err(Refusal::Selector {
+            at,
+            absent: 2 - left,
+        });
     }
-    let next = place + 1;
-    let second = blocks::stream_byte(file, start, StreamPlace(next));
+    let second = blocks::stream_byte(file, recording.start, StreamPlace(at.0 + 1));
     let size = size_of(second);
     if left < size {
-        return Record::Refused(Refusal::record(at, size, size - left));
+        return Err(Refusal::Record {
+            at,
+            size,
+            absent: size - left,
+        });
     }
-    Record::Is(size)
-}
-
-// Why a record cannot be read. Of another record nothing is promised, nor is it asked; 0 is no refusal's number.
-fn why_not(found: Record) -> Refusal
-    ensures { (why : Refusal) → found ≡ Record.Refused why → result ≡ why }
-{
-    match found {
-        Record::Refused(why) => why,
-        Record::Is(_) => Refusal {
-            number: 0,
-            beside: 0,
-            size: 0,
-            absent: 0,
-        },
-    }
+    Ok(size)
 }
 
 // Puts a record's place under a number, if that is to be written.
@@ -134,31 +101,23 @@ fn read_records(
     count: usize,
     most: usize,
     records: &mut [u32],
-) -> Walked
+) -> Result<Walk, Refusal>
     requires sound { Sound file.now recording }
     requires near { (walk.place.0 ≤ 506 * recording.blocks) × (walk.records + count ≤ 2 ^ 32) }
     requires room { most ≤ length records.old }
     ensures on { (g : Gathered) → walk ≡ numbers_of g → ReadsOn (stream_in file.now recording) (506 * recording.blocks) count most g records.old records.new result }
-    ensures near { (w : Walk) → walked_says result ≡ answers w → (w.place.0 ≤ 506 * recording.blocks) × (w.records ≡ walk.records + count) × (w.segments ≡ walk.segments) }
+    ensures near { (w : Walk) → result_says result ≡ answers w → (w.place.0 ≤ 506 * recording.blocks) × (w.records ≡ walk.records + count) × (w.segments ≡ walk.segments) }
 {
-    let base = walk.records;
     let mut at = walk.place;
-    let mut k: usize = 0;
-    while k < count {
-        let found = record_at(file, recording, at);
-        let Record::Is(size) = found else {
-            return Walked::Refused(why_not(found));
-        };
-        let number = base + k;
-        note(at, number, most, records);
+    for k in 0..count {
+        let size = record_at(file, recording, at)?;
+        note(at, walk.records + k, most, records);
         at = StreamPlace(at.0 + size);
-        k += 1;
     }
-    Walked::At(Walk {
+    Ok(Walk {
         place: at,
-        records: base + count,
-        segments: walk.segments,
-        first: walk.first,
+        records: walk.records + count,
+        ..walk
     })
 }
 
@@ -183,24 +142,20 @@ fn close(walk: Walk, most: usize, segments: &mut [u32]) -> Walk
     ensures closes { (g : Gathered) → walk ≡ numbers_of g → Closes most g segments.old segments.new result }
     ensures near { (result.place.0 ≡ walk.place.0) × (result.records ≡ walk.records) × (result.segments ≤ walk.segments + 1) }
 {
-    let place = walk.place;
-    let records = walk.records;
     let number = walk.segments;
-    let first = walk.first;
-    if records <= first {
+    if walk.records <= walk.first {
         return walk;
     }
     let segment = Segment {
-        first,
-        records: records - first,
-        reset: tables::lesser(1, number),
+        first: walk.first,
+        records: walk.records - walk.first,
+        reset: number.min(1),
     };
     put(segment, number, most, segments);
     Walk {
-        place,
-        records,
         segments: number + 1,
-        first: records,
+        first: walk.records,
+        ..walk
     }
 }
 
@@ -208,12 +163,9 @@ fn close(walk: Walk, most: usize, segments: &mut [u32]) -> Walk
 fn raise(walk: Walk, q: StreamPlace) -> Walk
     ensures { (result.place.0 ≡ max walk.place.0 q.0) × (result.records ≡ walk.records) × (result.segments ≡ walk.segments) × (result.first ≡ walk.first) }
 {
-    let place = StreamPlace(tables::greater(walk.place.0, q.0));
     Walk {
-        place,
-        records: walk.records,
-        segments: walk.segments,
-        first: walk.first,
+        place: StreamPlace(walk.place.0.max(q.0)),
+        ..walk
     }
 }
 
@@ -226,21 +178,19 @@ pub fn with_block(
     most: Totals,
     records: &mut [u32],
     segments: &mut [u32],
-) -> Walked
+) -> Result<Walk, Refusal>
     requires sound { Sound file.now recording × (block < recording.blocks) }
     requires near { Near recording.blocks block walk }
     requires room { (most.records ≤ length records.old) × (width * most.segments ≤ length segments.old) }
     ensures on { (g : Gathered) → walk ≡ numbers_of g → GoesOn most g (with_block file.now recording.start.0 recording.blocks block g) records.old records.new segments.old segments.new result }
-    ensures near { (w : Walk) → walked_says result ≡ answers w → Near recording.blocks (block + 1) w }
+    ensures near { (w : Walk) → result_says result ≡ answers w → Near recording.blocks (block + 1) w }
 {
-    let start = recording.start;
-    let count = blocks::count_byte(file, start, block);
+    let count = blocks::count_byte(file, recording.start, block);
     if count == 0 {
         let closed = close(walk, most.segments, segments);
-        let end = PAYLOAD * (block + 1);
-        return Walked::At(raise(closed, StreamPlace(end)));
+        return Ok(raise(closed, StreamPlace(PAYLOAD * (block + 1))));
     }
-    let raised = raise(walk, frames::block_start(file, start, block));
+    let raised = raise(walk, frames::block_start(file, recording.start, block));
     read_records(file, recording, raised, count, most.records, records)
 }
 
@@ -251,28 +201,21 @@ fn walk_blocks(
     most: Totals,
     records: &mut [u32],
     segments: &mut [u32],
-) -> Walked
+) -> Result<Walk, Refusal>
     requires sound { Sound file.now recording }
     requires room { (most.records ≤ length records.old) × (width * most.segments ≤ length segments.old) }
     ensures { GoesOn most nothing (gathered_from file.now recording) records.old records.new segments.old segments.new result }
 {
-    let blocks = recording.blocks;
     let mut walk = Walk {
         place: StreamPlace(0),
         records: 0,
         segments: 0,
         first: 0,
     };
-    let mut block = 0;
-    while block < blocks {
-        let came = with_block(file, recording, block, walk, most, records, segments);
-        let Walked::At(next) = came else {
-            return came;
-        };
-        walk = next;
-        block += 1;
+    for block in 0..recording.blocks {
+        walk = with_block(file, recording, block, walk, most, records, segments)?;
     }
-    Walked::At(close(walk, most.segments, segments))
+    Ok(close(walk, most.segments, segments))
 }
 
 // Hands out so many records and segments of a recording that has as many, if there is room for them.
@@ -282,7 +225,7 @@ fn hand_out(
     walk: Walk,
     records: &mut [u32],
     segments: &mut [u32],
-) -> Demuxed
+) -> Result<Totals, Refusal>
     requires sound { Sound file.now recording }
     requires counted { answers walk ≡ numbers_at (gathered_from file.now recording) }
     ensures { Demuxes (gathered_from file.now recording) records.old records.new segments.old segments.new result }
@@ -292,17 +235,22 @@ fn hand_out(
         segments: walk.segments,
     };
     if records.len() < most.records {
-        return Demuxed::Refused(Refusal::room(most.records));
+        return Err(Refusal::Room(most.records));
     }
     if segments.len() / ENTRY < most.segments {
-        return Demuxed::Refused(Refusal::segments(most.segments));
+        return Err(Refusal::Segments(most.segments));
     }
-    walk_blocks(file, recording, most, records, segments);
-    Demuxed::Tables(most)
+    let _ = walk_blocks(file, recording, most, records, segments);
+    Ok(most)
 }
 
 // Counts a recording's records and segments, then hands them out.
-fn read(file: &[u8], recording: Recording, records: &mut [u32], segments: &mut [u32]) -> Demuxed
+fn read(
+    file: &[u8],
+    recording: Recording,
+    records: &mut [u32],
+    segments: &mut [u32],
+) -> Result<Totals, Refusal>
     requires { Sound file.now recording }
     ensures { Demuxes (gathered_from file.now recording) records.old records.new segments.old segments.new result }
 {
@@ -310,20 +258,18 @@ fn read(file: &[u8], recording: Recording, records: &mut [u32], segments: &mut [
         records: 0,
         segments: 0,
     };
-    let counted = walk_blocks(file, recording, none, records, segments);
-    match counted {
-        Walked::Refused(why) => Demuxed::Refused(why),
-        Walked::At(walk) => hand_out(file, recording, walk, records, segments),
-    }
+    let walk = walk_blocks(file, recording, none, records, segments)?;
+    hand_out(file, recording, walk, records, segments)
 }
 
 // The records and segments of a QP7 file, or a refusal that changes nothing.
-pub fn demux_ds2_qp7(file: &[u8], records: &mut [u32], segments: &mut [u32]) -> Demuxed
+pub fn demux_ds2_qp7(
+    file: &[u8],
+    records: &mut [u32],
+    segments: &mut [u32],
+) -> Result<Totals, Refusal>
     ensures { Demuxes (qp7_reading file.now) records.old records.new segments.old segments.new result }
 {
-    let asked = whole::admit_ds2(file, Kind::Qp7);
-    match asked {
-        Admission::Refused(why) => Demuxed::Refused(why),
-        Admission::Admitted(recording) => read(file, recording, records, segments),
-    }
+    let recording = whole::admit_ds2(file, Kind::Qp7)?;
+    read(file, recording, records, segments)
 }

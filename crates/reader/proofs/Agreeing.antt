@@ -10,7 +10,7 @@ use lib.ListN.{length, get_or, take}
 use lib.Dec.{eqb}
 use Rattle.tables.proofs.Cases.{by_test}
 use Rattle.blocks.specs.Places.{limit, whole_blocks}
-use Rattle.refusals.specs.Said.{Said, answers}
+use Rattle.refusals.specs.Said.{Said, answers, result_says}
 use Rattle.whole.specs.declared.Recording.{Recording}
 use Rattle.detect.specs.declared.Kind.TheVariants.{Sp}
 use Rattle.magic.specs.declared.Magic.TheVariants.{Dss, Ds2}
@@ -21,14 +21,15 @@ use Rattle.whole.specs.Admissions.{recording_at, admission_at, admission}
 use Rattle.detect.proofs.Types.{sp_is_0_to_5}
 use Rattle.whole.proofs.Admissions.{admitted, dss_at, ds2_at, ds2_taken}
 use Rattle.sp.specs.ReadLists.{dss_runs, ds2_runs}
-use Rattle.sp.specs.declared.Demuxed.{Demuxed}
 use Rattle.sp.specs.Readings.{Reading, total, read_by, dss_reading, ds2_reading}
-use Rattle.sp.specs.Outcome.{out_after, counts_after, demuxed_says, Demuxes}
+use Rattle.sp.specs.Outcome.{out_after, counts_after, Demuxes}
 use Rattle.sp.proofs.Outcome.{accepted_read}
 use Rattle.hold.specs.Ready.{reading_in}
 use Rattle.reader.specs.State.{is_dss, start_of, reading_by}
 use Rattle.reader.specs.Agreement.{whole_reading, Agrees}
 use Rattle.reader.proofs.Parts.{Part, part_whole}
+use Rattle.std.specs.Prelude.{Result, Ok, Err}
+use Rattle.refusals.specs.declared.Refusal.{Refusal}
 
 -- a file of a magic that is taken, within the limit and with a full header
 dss_is : (f : List ℕ) (a : ℕ) → length f ≤ limit → a ≤ length f → magic_of f ≡ Dss → 512 * get_or f 0 0 ≡ a
@@ -75,8 +76,8 @@ agrees_is kind f small v =
     (omega (arith, ap (format_type f) start, (v.ds2 ds2).2))))
 
 -- what a whole call that answers leaves in front of its lent buffers
-pub whole_hands : {said : Said Reading} {reading : Reading} {out out' counts counts' : List ℕ} {answer : Demuxed} {t : ℕ} → said ≡ answers reading
-    → Demuxes said out out' counts counts' answer → demuxed_says answer ≡ answers t
+pub whole_hands : {said : Said Reading} {reading : Reading} {out out' counts counts' : List ℕ} {answer : Result ℕ Refusal} {t : ℕ} → said ≡ answers reading
+    → Demuxes said out out' counts counts' answer → result_says answer ≡ answers t
     → (total reading ≡ t) × Part reading 0 (total reading) (take (42 * total reading) out') (take (total reading) counts')
 whole_hands {said} {reading} {out} {out'} {counts} {counts'} {answer} {t} read d answered =
     let w = accepted_read said out out' counts counts' answer d t answered in

@@ -9,9 +9,9 @@ use lib.ListN.{length, take}
 use lib.Dec.{eqb}
 use Rattle.tables.proofs.Cases.{by_test}
 use Rattle.blocks.specs.Headers.{announced_in}
-use Rattle.refusals.specs.Said.{answers}
+use Rattle.refusals.specs.Said.{answers, result_says}
 use Rattle.sp.specs.Readings.{Reading, total}
-use Rattle.sp.specs.Outcome.{room_in, demuxed_says}
+use Rattle.sp.specs.Outcome.{room_in}
 use Rattle.reader.specs.declared.Reader.{Reader}
 use Rattle.reader.specs.declared.Step.{Step}
 use Rattle.reader.specs.State.{State, is_kind, start_of, blocks_in, opened, owed, reader_of, Sound, Reached}
@@ -42,7 +42,7 @@ none_more {reader} {last} {rooms} {m} {packets} {entries} n out counts is v =
 -- an end by either choice, and then those
 ends_then : {reader last : Reader} {pieces : List (List ℕ)} {n m : ℕ} {packets entries : List ℕ} (choice : ℕ) (out out' counts counts' : List ℕ)
     (step : Step) (s : State) → reader ≡ reader_of s → Sound s → EndCall reader choice out out' counts counts' step
-    → demuxed_says step.answer ≡ answers n → Ended step.reader pieces m packets entries last
+    → result_says step.answer ≡ answers n → Ended step.reader pieces m packets entries last
     → Ended reader pieces (n + m) (take (42 * n) out' ++ packets) (take n counts' ++ entries) last
 ends_then {reader} {n = n} choice out out' counts counts' step s e sound call said v =
     let answer = sym (call s e sound).steps.answer_is ∙ said in

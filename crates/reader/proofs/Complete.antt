@@ -14,8 +14,7 @@ use lib.Dec.{eqb}
 use Rattle.tables.proofs.Cases.{by_test, by_order, never}
 use Rattle.tables.proofs.Table.{length_table, table_at}
 use Rattle.blocks.specs.Headers.{announced_in}
-use Rattle.refusals.specs.Said.{answers}
-use Rattle.sp.specs.Outcome.{demuxed_says}
+use Rattle.refusals.specs.Said.{answers, result_says}
 use Rattle.packets.specs.Packet.{read_size}
 use Rattle.sp.specs.Readings.{Reading, walk_at, file_count_at, CompleteAt}
 use Rattle.sp.specs.Whole.{whole_at, SwappedUpto}
@@ -93,7 +92,7 @@ module _ (kind : ℕ) (opening : Step) (opens : Opens kind opening) (known : is_
   -- A strict end that succeeds says that all that the recording announces has come. However a fresh reader was given its pieces, and whatever
   -- it has refused in between: if a strict end is then answered, all that was taken and came out is a complete recording, every read of it.
   pub strict_end_is_complete : {out out' counts counts' : List ℕ} {step : Step} {m : ℕ} → EndCall last strict out out' counts counts' step
-      → demuxed_says step.answer ≡ answers m → CompleteRecording kind (joined pieces) n packets entries
+      → result_says step.answer ≡ answers m → CompleteRecording kind (joined pieces) n packets entries
   strict_end_is_complete {m = m} call said =
       let f = joined pieces in
       let v = opened_fed kind opening opens known fed in
@@ -122,7 +121,7 @@ module _ (kind : ℕ) (opening : Step) (opens : Opens kind opening) (known : is_
   pub complete_is_ended : start_of kind ≤ length (joined pieces)
       → length (joined pieces) ≡ start_of kind + 512 * blocks_in kind (joined pieces)
       → ((k : ℕ) → k < announced_in (joined pieces) (start_of kind) (blocks_in kind (joined pieces)) → CompleteAt (reading_by kind (joined pieces)) k)
-      → {out out' counts counts' : List ℕ} {step : Step} → EndCall last strict out out' counts counts' step → demuxed_says step.answer ≡ answers 0
+      → {out out' counts counts' : List ℕ} {step : Step} → EndCall last strict out out' counts counts' step → result_says step.answer ≡ answers 0
   complete_is_ended full whole all call =
       let f = joined pieces in
       let a = start_of kind in

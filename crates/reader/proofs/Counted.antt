@@ -9,11 +9,11 @@ use lib.ListN.{length, take}
 use Rattle.tables.specs.Table.{Each}
 use Rattle.tables.proofs.Cases.{by_order}
 use Rattle.blocks.specs.Headers.{announced_in}
-use Rattle.refusals.specs.declared.Refusal.{Refusal}
-use Rattle.refusals.specs.Said.{answers, refusal}
+use Rattle.refusals.specs.declared.Numbers.{Numbers}
+use Rattle.refusals.specs.Said.{answers, refusal, result_says}
 use Rattle.refusals.proofs.Said.{by_said}
 use Rattle.sp.specs.Readings.{Reading, total}
-use Rattle.sp.specs.Outcome.{room_in, demuxed_says}
+use Rattle.sp.specs.Outcome.{room_in}
 use Rattle.hold.proofs.Ready.{total_is, ready_within}
 use Rattle.reader.specs.declared.Reader.{Reader}
 use Rattle.reader.specs.declared.Step.{Step}
@@ -52,10 +52,10 @@ module _ (kind : ℕ) (opening : Step) (opens : Opens kind opening) (known : is_
 
 -- What is owed is what a lenient end with room for all of it hands out, unless it is refused.
 pub owed_is_handed : {reader : Reader} {m : ℕ} {out out' counts counts' : List ℕ} {step : Step} → Reached reader → OwedCall reader m
-    → EndCall reader lenient out out' counts counts' step → m ≤ room_in out counts → ((why : Refusal) → demuxed_says step.answer ≡ refusal why → ⊥)
-    → demuxed_says step.answer ≡ answers m
+    → EndCall reader lenient out out' counts counts' step → m ≤ room_in out counts → ((why : Numbers) → result_says step.answer ≡ refusal why → ⊥)
+    → result_says step.answer ≡ answers m
 owed_is_handed {m = m} {step = step} known owes call room not_refused =
-    by_said (demuxed_says step.answer)
+    by_said (result_says step.answer)
     (λ n said.
     let all : n ≡ m =
     omega (arith, at_state known owes, lenient_many known.state known.is known.sound call said) in

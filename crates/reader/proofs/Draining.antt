@@ -11,11 +11,10 @@ use lib.Dec.{eqb}
 use Rattle.tables.proofs.Cases.{by_order, by_test, either_most}
 use Rattle.tables.proofs.Lent.{leaves_none, leaves_over}
 use Rattle.blocks.specs.Places.{Whole, whole_blocks}
-use Rattle.refusals.specs.Said.{Said, answers}
+use Rattle.refusals.specs.Said.{Said, answers, result_says}
 use Rattle.refusals.proofs.Said.{by_said}
-use Rattle.sp.specs.declared.Demuxed.{Demuxed}
 use Rattle.sp.specs.Readings.{Reading, carry_at}
-use Rattle.sp.specs.Outcome.{room_in, demuxed_says}
+use Rattle.sp.specs.Outcome.{room_in}
 use Rattle.hold.specs.Ready.{reading_in, ready}
 use Rattle.hold.specs.Held.{base_at, fits}
 use Rattle.hold.specs.Inner.{PartWritten, Owing}
@@ -28,6 +27,8 @@ use Rattle.reader.specs.Calls.{end_by, end_said, after_end, handed_by, Ends}
 use Rattle.reader.proofs.Opened.{standing_of}
 use Rattle.reader.proofs.Ends.{owed_is}
 use Rattle.reader.proofs.Within.{end_within}
+use Rattle.std.specs.Prelude.{Result, Ok, Err}
+use Rattle.refusals.specs.declared.Refusal.{Refusal}
 
 -- of blocks that were added one after another none lies past the hold's end
 held_within : (dss : Bool) (f : List ℕ) (a n : ℕ) → (0 < n → Whole f a n) → fits dss f a n ≡ true → 506 * n ≤ base_at dss f a n + 12288
@@ -99,18 +100,18 @@ HandsOut r n some out out' counts counts' carry =
     counts' carry
 
 -- an end counts the blocks, says what it says by its choice, and hands out as many packets as that is
-pub record Wants (r : Reader) (choice n some : ℕ) (answer : Demuxed) (out counts : List ℕ) : Type 0 where
+pub record Wants (r : Reader) (choice n some : ℕ) (answer : Result ℕ Refusal) (out counts : List ℕ) : Type 0 where
   pub blocks_are : n ≡ whole_blocks r.taken (start_of r.kind)
-  pub answer_is : demuxed_says answer
+  pub answer_is : result_says answer
       ≡ end_by choice r.phase (start_of r.kind) r.taken (r.announced - r.ready - r.drained) (room_in out counts)
-  pub some_are : some ≡ handed_by (demuxed_says answer)
+  pub some_are : some ≡ handed_by (result_says answer)
 
-module _ {s : State} {r : Reader} (is : r ≡ reader_of s) (sound : Sound s) {choice n some : ℕ} {answer : Demuxed} {out counts : List ℕ}
+module _ {s : State} {r : Reader} (is : r ≡ reader_of s) (sound : Sound s) {choice n some : ℕ} {answer : Result ℕ Refusal} {out counts : List ℕ}
     (w : Wants r choice n some answer out counts) where
   many : n ≡ blocks_in s.kind s.bytes
   many = w.blocks_are ∙ ap (λ (r : Reader). whole_blocks r.taken (start_of r.kind)) is
 
-  says : demuxed_says answer ≡ end_said s choice (room_in out counts)
+  says : result_says answer ≡ end_said s choice (room_in out counts)
   says = w.answer_is ∙ cc (is, owed_is s r is)
 
   -- so many come, if it is answered, and none if it is refused
@@ -149,7 +150,7 @@ module _ {s : State} {r : Reader} (is : r ≡ reader_of s) (sound : Sound s) {ch
       (subst (λ (r : Reader). HandsOut r n some out out' counts counts' carry) is law) at_state
 
   pub end_steps : {carry phase : ℕ} {accepted : Bool} {out' counts' : List ℕ} → HandsOut r n some out out' counts counts' carry
-      → accepted ≡ accepts (demuxed_says answer)
+      → accepted ≡ accepts (result_says answer)
       → phase ≡ cond accepted (cond (eqb some (r.announced - r.ready - r.drained)) 2 1) r.phase
       → Ends s choice out out' counts counts' (record { answer = answer; reader = drained_by some carry phase r })
   end_steps {carry} {phase} {accepted} {out'} {counts'} law accepted-is phase-is =
@@ -187,13 +188,13 @@ module _ {s : State} {r : Reader} (is : r ≡ reader_of s) (sound : Sound s) {ch
       phase_by e = rw (accepted-is ∙ ap accepts (says ∙ e), owed_is s r is, is) at phase-is
 
 -- so a reader that a call gave back may hand out what is wanted
-pub owing : {r : Reader} {choice n some : ℕ} {answer : Demuxed} {out counts : List ℕ} → Reached r → Wants r choice n some answer out counts
+pub owing : {r : Reader} {choice n some : ℕ} {answer : Result ℕ Refusal} {out counts : List ℕ} → Reached r → Wants r choice n some answer out counts
     → OwingOf r n some out counts
 owing {n = n} {some = some} {out = out} {counts = counts} v w =
     subst (λ (r : Reader). OwingOf r n some out counts) (sym v.is)
     (subst (λ (m : ℕ). OwingOf (reader_of v.state) m some out counts) (sym (many v.is v.sound w)) (at_state v.is v.sound w))
 
 -- and hands out no more than it owes
-pub end_most : {r : Reader} {choice n some : ℕ} {answer : Demuxed} {out counts : List ℕ} → Reached r → Wants r choice n some answer out counts
+pub end_most : {r : Reader} {choice n some : ℕ} {answer : Result ℕ Refusal} {out counts : List ℕ} → Reached r → Wants r choice n some answer out counts
     → some ≤ r.announced - r.ready - r.drained
 end_most {r} v w = omega (arith, (within v.is v.sound w).1, owed_is v.state r v.is)

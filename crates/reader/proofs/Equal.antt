@@ -9,10 +9,9 @@ use borrow.Author.Tests.{le-leb, lt-leb, leb-false}
 use lib.ListN.{length, take}
 use Rattle.blocks.specs.Places.{limit}
 use Rattle.blocks.specs.Headers.{count_of, announced_in}
-use Rattle.refusals.specs.Said.{answers, refuses}
-use Rattle.sp.specs.declared.Demuxed.{Demuxed}
+use Rattle.refusals.specs.Said.{answers, refuses, result_says}
 use Rattle.sp.specs.Readings.{Reading, total, CompleteAt}
-use Rattle.sp.specs.Outcome.{demuxed_says, Demuxes}
+use Rattle.sp.specs.Outcome.{Demuxes}
 use Rattle.hold.specs.Held.{fitting}
 use Rattle.hold.proofs.Ready.{total_is, ds2_exactly}
 use Rattle.reader.specs.declared.Reader.{Reader}
@@ -27,6 +26,8 @@ use Rattle.reader.proofs.Folding.{holding, Came, opened_fed, drew_owed, drained_
 use Rattle.reader.proofs.Agreeing.{agrees_is, whole_hands}
 use Rattle.reader.proofs.Fitting.{fits_same}
 use Rattle.reader.proofs.Blockwise.{block_exactly}
+use Rattle.std.specs.Prelude.{Result, Ok, Err}
+use Rattle.refusals.specs.declared.Refusal.{Refusal}
 
 -- A reader that takes pieces refuses one with which it is within the limit by 7 exactly when some block of the bytes joined does not fit.
 pub seven_given : (s : State) (piece : List ℕ) (room : ℕ) → s.phase ≡ 0 → length s.bytes + length piece ≤ limit
@@ -67,10 +68,10 @@ module _ (kind : ℕ) (opening : Step) (opens : Opens kind opening) (known : is_
   -- longer input that begins so: however the input is cut, 7 comes at the same block.
   pub seven_at_the_same_block : {piece out out' counts counts' : List ℕ} {step : Step} → PieceCall last piece out out' counts counts' step
       → length (joined pieces) + length piece ≤ limit → (rest : List ℕ)
-      → (demuxed_says step.answer ≡ refuses 7 12288
+      → (result_says step.answer ≡ refuses 7 12288
       → fitting (is_dss kind) (joined pieces ++ piece ++ rest) (start_of kind) (blocks_in kind (joined pieces ++ piece ++ rest)) < blocks_in kind (joined pieces ++ piece))
       × (fitting (is_dss kind) (joined pieces ++ piece ++ rest) (start_of kind) (blocks_in kind (joined pieces ++ piece ++ rest)) < blocks_in kind (joined pieces ++ piece)
-      → demuxed_says step.answer ≡ refuses 7 12288)
+      → result_says step.answer ≡ refuses 7 12288)
   seven_at_the_same_block {piece = piece} {step = step} call small rest =
       let f = joined pieces ++ piece in
       let s = holding (opened kind) (joined pieces) in
@@ -114,8 +115,8 @@ module _ (kind : ℕ) (opening : Step) (opens : Opens kind opening) (known : is_
         (reading_by kind (joined pieces), agrees_is kind (joined pieces) came.sound.small agrees, v.0, v.1, v.2)
 
     -- And it is what the whole call, where it has room, leaves in front of its output and of its count table.
-    pub pieces_are_the_whole_call : Agrees kind (joined pieces) → {out out' counts counts' : List ℕ} {answer : Demuxed} {t : ℕ}
-        → Demuxes (whole_reading kind (joined pieces)) out out' counts counts' answer → demuxed_says answer ≡ answers t
+    pub pieces_are_the_whole_call : Agrees kind (joined pieces) → {out out' counts counts' : List ℕ} {answer : Result ℕ Refusal} {t : ℕ}
+        → Demuxes (whole_reading kind (joined pieces)) out out' counts counts' answer → result_says answer ≡ answers t
         → (n + n' ≡ t) × (packets ++ packets' ≡ take (42 * t) out') × (entries ++ entries' ≡ take t counts')
     pieces_are_the_whole_call agrees {out' = out'} {counts' = counts'} whole said =
         let v = pieces_make_reading in

@@ -9,8 +9,8 @@ use borrow.Author.Tests.{eq-eqb}
 use lib.ListN.{length, take}
 use lib.Dec.{eqb}
 use Rattle.tables.specs.Table.{Each}
-use Rattle.refusals.specs.Said.{answers}
-use Rattle.sp.specs.Outcome.{room_in, demuxed_says}
+use Rattle.refusals.specs.Said.{answers, result_says}
+use Rattle.sp.specs.Outcome.{room_in}
 use Rattle.reader.specs.declared.Reader.{Reader}
 use Rattle.reader.specs.declared.Step.{Step}
 use Rattle.reader.specs.State.{State, is_kind, opened, reading_by, ready_by, handed, owed, reader_of, Sound}
@@ -39,7 +39,7 @@ pub record Took (s : State) (f : List ℕ) (n : ℕ) (packets entries : List ℕ
 
 -- one piece
 took_one : {reader : Reader} {piece out out' counts counts' : List ℕ} {step : Step} {n : ℕ} (s : State) → reader ≡ reader_of s → Sound s
-    → PieceCall reader piece out out' counts counts' step → demuxed_says step.answer ≡ answers n
+    → PieceCall reader piece out out' counts counts' step → result_says step.answer ≡ answers n
     → Took s (s.bytes ++ piece) n (take (42 * n) out') (take n counts') step.reader
 took_one {piece = piece} {out = out} {counts = counts} {n = n} s e sound call said =
     let v = call s e sound in
@@ -125,7 +125,7 @@ drew_owed v = omega (arith, v.many, v.sound.among)
 
 -- one end
 drew_one : {reader : Reader} {choice : ℕ} {out out' counts counts' : List ℕ} {step : Step} {n : ℕ} (s : State) → reader ≡ reader_of s → Sound s
-    → EndCall reader choice out out' counts counts' step → demuxed_says step.answer ≡ answers n
+    → EndCall reader choice out out' counts counts' step → result_says step.answer ≡ answers n
     → Drew s n (take (42 * n) out') (take n counts') step.reader
 drew_one {choice = choice} {out = out} {counts = counts} {n = n} s e sound call said =
     let v = call s e sound in
@@ -147,7 +147,7 @@ after_strict s room n sound said =
     ap₂ (lighter s) many (simp (eq-eqb n (owed s) (none.0 ∙ sym none.1)))
 
 ended_by : {reader : Reader} {out out' counts counts' : List ℕ} {step : Step} {n : ℕ} (s : State) → reader ≡ reader_of s → Sound s
-    → EndCall reader strict out out' counts counts' step → demuxed_says step.answer ≡ answers n
+    → EndCall reader strict out out' counts counts' step → result_says step.answer ≡ answers n
     → (step.reader ≡ reader_of (lighter s s.drained 2)) × Sound (lighter s s.drained 2)
 ended_by {out = out} {counts = counts} {n = n} s e sound call said =
     let v = (call s e sound).steps in

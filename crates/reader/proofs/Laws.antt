@@ -13,13 +13,11 @@ use Rattle.tables.proofs.Cases.{by_order, by_equal}
 use Rattle.blocks.specs.Places.{limit}
 use Rattle.blocks.specs.Headers.{Bytes, announced_in}
 use Rattle.blocks.proofs.Headers.{announced_none}
-use Rattle.refusals.specs.declared.Refusal.{Refusal}
-use Rattle.refusals.specs.Said.{Said, answers, refuses, refusal}
+use Rattle.refusals.specs.declared.Numbers.{Numbers}
+use Rattle.refusals.specs.Said.{Said, answers, refuses, refusal, result_says}
 use Rattle.refusals.proofs.Said.{not_both, passed, by_demand, only_one, read_from}
-use Rattle.sp.specs.declared.Demuxed.{Demuxed}
-use Rattle.sp.specs.declared.Demuxed.TheVariants.{Packets, Refused}
 use Rattle.sp.specs.Readings.{Reading}
-use Rattle.sp.specs.Outcome.{room_in, demuxed_says}
+use Rattle.sp.specs.Outcome.{room_in}
 use Rattle.sp.proofs.Outcome.{demuxed_back}
 use Rattle.reader.specs.declared.Reader.{Reader}
 use Rattle.reader.specs.declared.Step.{Step}
@@ -27,6 +25,8 @@ use Rattle.reader.specs.State.{State, start_of, blocks_in, fits_by, owed, reader
 use Rattle.reader.specs.Calls.{brings, piece_said, in_block, strict_by, lenient_by, strict, lenient, end_said, Steps, Hands}
 use Rattle.reader.specs.History.{EndCall}
 use Rattle.reader.proofs.Parts.{Part, part_over}
+use Rattle.std.specs.Prelude.{Result, Ok, Err}
+use Rattle.refusals.specs.declared.Refusal.{Refusal}
 
 -- what a contract says of every state that a reader may stand for, said of one
 pub at_state : {reader : Reader} {P : State → Type 0} (known : Reached reader) → ((s : State) → reader ≡ reader_of s → Sound s → P s)
@@ -34,20 +34,20 @@ pub at_state : {reader : Reader} {P : State → Type 0} (known : Reached reader)
 at_state known call = call known.state known.is known.sound
 
 -- a call whose answer says this has come to the state that follows from it
-pub steps_by : {said known : Said ℕ} {step : Step} (after : Said ℕ → State) → demuxed_says step.answer ≡ known → Steps said (after said) step
+pub steps_by : {said known : Said ℕ} {step : Step} (after : Said ℕ → State) → result_says step.answer ≡ known → Steps said (after said) step
     → Steps known (after known) step
 steps_by {step = step} after e v = subst (λ (x : Said ℕ). Steps x (after x) step) (sym v.answer_is ∙ e) v
 
 -- and has left what follows from it in the lent buffers
 pub hands_by : {said known : Said ℕ} {next : State} {step : Step} {reading : Reading} {k : ℕ} {out out' counts counts' : List ℕ}
-    → demuxed_says step.answer ≡ known → Steps said next step → Hands reading k said out out' counts counts'
+    → result_says step.answer ≡ known → Steps said next step → Hands reading k said out out' counts counts'
     → Hands reading k known out out' counts counts'
 hands_by {reading = reading} {k = k} {out = out} {out' = out'} {counts = counts} {counts' = counts'} e v h =
     subst (λ (x : Said ℕ). Hands reading k x out out' counts counts') (sym v.answer_is ∙ e) h
 
 -- a refused one has left everything as it was
-pub refused_by : {said : Said ℕ} {step : Step} {reading : Reading} {k : ℕ} {out out' counts counts' : List ℕ} {why : Refusal} (after : Said ℕ → State)
-    → demuxed_says step.answer ≡ refusal why → Steps said (after said) step → Hands reading k said out out' counts counts'
+pub refused_by : {said : Said ℕ} {step : Step} {reading : Reading} {k : ℕ} {out out' counts counts' : List ℕ} {why : Numbers} (after : Said ℕ → State)
+    → result_says step.answer ≡ refusal why → Steps said (after said) step → Hands reading k said out out' counts counts'
     → (step.reader ≡ reader_of (after (refusal why))) × (out' ≡ out) × (counts' ≡ counts)
 refused_by after e v h = let kept = hands_by e v h in ((steps_by after e v).reader_is, kept.out_is, kept.counts_are)
 
@@ -63,14 +63,14 @@ part_written {reading} {k} {n} {out} {out'} {counts} {counts'} h room =
     record { packets_are = ap (take (42 * n)) h.out_is ∙ v.packets_are; entries_are = ap (take n) h.counts_are ∙ v.entries_are }
 
 -- two outcomes of one call are the same
-step_of : Demuxed → Reader → Step
+step_of : Result ℕ Refusal → Reader → Step
 step_of answer reader = record { answer = answer; reader = reader }
 
 pub only_step : {said : Said ℕ} {next : State} {step step' : Step} → Steps said next step → Steps said next step' → step ≡ step'
 unfolding step_of
 only_step {said} {next} {step} {step'} v w =
     let answer : step.answer ≡ step'.answer =
-    only_one demuxed_says (read_from Packets Refused) demuxed_back step.answer step'.answer said v.answer_is w.answer_is in
+    only_one result_says (read_from Ok Err) demuxed_back step.answer step'.answer said v.answer_is w.answer_is in
     ap₂ step_of answer (v.reader_is ∙ sym w.reader_is)
 
 pub only_outcome : {reading : Reading} {k : ℕ} {said : Said ℕ} {next : State} {step step' : Step} {out out' out'' counts counts' counts'' : List ℕ}
@@ -93,7 +93,7 @@ piece_accepted s piece room n e =
 
 -- how many packets a lenient end answers
 pub lenient_many : {reader : Reader} {out out' counts counts' : List ℕ} {step : Step} {n : ℕ} (s : State) → reader ≡ reader_of s → Sound s
-    → EndCall reader lenient out out' counts counts' step → demuxed_says step.answer ≡ answers n → n ≡ min (room_in out counts) (owed s)
+    → EndCall reader lenient out out' counts counts' step → result_says step.answer ≡ answers n → n ≡ min (room_in out counts) (owed s)
 unfolding lenient_by
 lenient_many {out = out} {counts = counts} s e sound call said =
     let v = (call s e sound).steps in

@@ -15,9 +15,7 @@ use Rattle.blocks.specs.Places.{block_at}
 use Rattle.blocks.specs.Headers.{announced_in}
 use Rattle.blocks.proofs.Headers.{announced_none}
 use Rattle.blocks.proofs.Places.{stream_past}
-use Rattle.refusals.specs.Said.{answers, demand}
-use Rattle.sp.specs.declared.Demuxed.{Demuxed}
-use Rattle.sp.specs.Outcome.{demuxed_says}
+use Rattle.refusals.specs.Said.{answers, demand, result_says}
 use Rattle.sp.proofs.Runs.{carry_at_first}
 use Rattle.hold.specs.declared.Standing.{Standing}
 use Rattle.hold.specs.Ready.{reading_in, front, ready}
@@ -30,6 +28,8 @@ use Rattle.reader.specs.declared.Reader.{Reader}
 use Rattle.pieces.specs.Joined.{bytes_from}
 use Rattle.reader.specs.State.{State, is_kind, is_dss, start_of, blocks_in, ready_by, handed, reader_of, Sound}
 use Rattle.reader.specs.Calls.{open_said, after_open, Opens}
+use Rattle.std.specs.Prelude.{Result, Ok, Err}
+use Rattle.refusals.specs.declared.Refusal.{Refusal}
 
 -- the kinds that there are
 pub by_kind {ℓ} : {X : Type ℓ} (kind : ℕ) → is_kind kind ≡ true → (kind ≡ 0 → X) → (kind ≡ 2 → X) → (kind ≡ 3 → X) → X
@@ -162,7 +162,7 @@ opened_sound kind =
     (λ is. rw is (fresh_sound kind 0 is (λ e. omega arith) (omega arith)))
     (λ is-not. rw is-not (fresh_sound 0 2 ds2_is (λ e. omega arith) (omega arith)))
 
-pub opens : (kind kind' phase : ℕ) (known : Bool) (answer : Demuxed) → known ≡ is_kind kind → demuxed_says answer ≡ demand known 10 kind (answers 0)
+pub opens : (kind kind' phase : ℕ) (known : Bool) (answer : Result ℕ Refusal) → known ≡ is_kind kind → result_says answer ≡ demand known 10 kind (answers 0)
     → kind' ≡ cond known kind 0 → phase ≡ cond known 0 2 → Opens kind (record { answer = answer; reader = fresh_reader kind' phase })
 unfolding open_said
 opens kind kind' phase known answer is said kind_is phase-is =

@@ -14,11 +14,10 @@ use Rattle.tables.proofs.Lent.{leaves_over}
 use Rattle.blocks.specs.Places.{limit, Whole, whole_blocks, block_at}
 use Rattle.blocks.specs.Headers.{Bytes}
 use Rattle.blocks.proofs.Headers.{announced_kept}
-use Rattle.refusals.specs.declared.Refusal.{Refusal}
-use Rattle.refusals.specs.Said.{Said, answers, refusal, demand}
+use Rattle.refusals.specs.declared.Numbers.{Numbers}
+use Rattle.refusals.specs.Said.{Said, answers, refusal, demand, result_says}
 use Rattle.refusals.proofs.Said.{by_said}
-use Rattle.sp.specs.declared.Demuxed.{Demuxed}
-use Rattle.sp.specs.Outcome.{room_in, demuxed_says}
+use Rattle.sp.specs.Outcome.{room_in}
 use Rattle.hold.specs.declared.Standing.{Standing}
 use Rattle.hold.specs.Ready.{ready}
 use Rattle.hold.specs.Held.{fits, waiting_at, hold_at}
@@ -33,6 +32,8 @@ use Rattle.reader.specs.Calls.{brings, piece_said, after_piece, Steps, Hands, Ta
 use Rattle.pieces.specs.Inner.{Joins, Known, gained, judged, accepts, Able, Absorbed}
 use Rattle.reader.proofs.Opened.{none_stands, none_fits, standing_of, reader_with, stands_for}
 use Rattle.reader.proofs.Laws.{steps_by, hands_by, piece_accepted, bytes_joined}
+use Rattle.std.specs.Prelude.{Result, Ok, Err}
+use Rattle.refusals.specs.declared.Refusal.{Refusal}
 
 -- an input that goes on: what stood after its blocks stands, they fit as they did, and what was kept of the next one joins the rest
 module _ (dss : Bool) (f rest : List ℕ) (a : ℕ) where
@@ -89,11 +90,11 @@ AbleOf r a piece out counts f =
     Able (is_dss r.kind) f a r.taken (standing_of r) r.hold r.partial r.waiting piece (length out) (length counts)
 
 -- what the survey decides
-pub record Decided (r : Reader) (a : ℕ) (piece out counts : List ℕ) (room : ℕ) (accepted : Bool) (answer : Demuxed) : Type 0 where
+pub record Decided (r : Reader) (a : ℕ) (piece out counts : List ℕ) (room : ℕ) (accepted : Bool) (answer : Result ℕ Refusal) : Type 0 where
   pub room_is : room ≡ room_in out counts
-  pub fair : accepted ≡ accepts (demuxed_says answer)
+  pub fair : accepted ≡ accepts (result_says answer)
   pub says : (f : List ℕ) → (r.phase ≡ 0 → r.taken + length piece ≤ limit → KnownOf r a piece f)
-      → demuxed_says answer
+      → result_says answer
       ≡ demand (eqb r.phase 0) 6 0 (demand (leb (r.taken + length piece) limit) 2 limit (judged (is_dss r.kind) f a r.taken room))
 
 -- and what is then taken, or left
@@ -176,9 +177,9 @@ module _ (s : State) (piece : List ℕ) (sound : Sound s) (bytes : Bytes piece) 
         phases = sound.phases;
       }
 
-  module _ {out counts : List ℕ} {room : ℕ} {accepted : Bool} {answer : Demuxed}
+  module _ {out counts : List ℕ} {room : ℕ} {accepted : Bool} {answer : Result ℕ Refusal}
       (d : Decided (reader_of s) a piece out counts room accepted answer) where
-    said : demuxed_says answer ≡ piece_said s piece (room_in out counts)
+    said : result_says answer ≡ piece_said s piece (room_in out counts)
     unfolding piece_said judged
     said = d.says f known ∙ cc (gained_is, d.room_is)
 
@@ -205,7 +206,7 @@ module _ (s : State) (piece : List ℕ) (sound : Sound s) (bytes : Bytes piece) 
       taken_as e = rw e at t.taken_is
 
       -- a refused one leaves everything as it was
-      kept : {why : Refusal} → piece_said s piece (room_in out counts) ≡ refusal why → Takes s piece out out' counts counts' step
+      kept : {why : Numbers} → piece_said s piece (room_in out counts) ≡ refusal why → Takes s piece out out' counts counts' step
       kept e =
           let as_it_was = t.refused (accepted_as e) in
           settled e (rw as_it_was.0 (cc (as_it_was.1, as_it_was.2, as_it_was.3, taken_as (accepted_as e)))) sound
@@ -239,7 +240,7 @@ module _ (s : State) {r : Reader} {a : ℕ} (is : r ≡ reader_of s) (a-is : a �
         at (λ (r : Reader) (a : ℕ). r.phase ≡ 0 → r.taken + length piece ≤ limit → (f : List ℕ) × KnownOf r a piece f)
         (λ taking within. (s.bytes ++ piece, known s piece sound bytes taking within))
 
-    module _ {out counts : List ℕ} {room : ℕ} {accepted : Bool} {answer : Demuxed} (d : Decided r a piece out counts room accepted answer) where
+    module _ {out counts : List ℕ} {room : ℕ} {accepted : Bool} {answer : Result ℕ Refusal} (d : Decided r a piece out counts room accepted answer) where
       pub enables : accepted ≡ true → (f : List ℕ) × AbleOf r a piece out counts f
       enables =
           at

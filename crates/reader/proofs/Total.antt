@@ -10,10 +10,10 @@ use lib.ListN.{length}
 use Rattle.tables.proofs.Cases.{never}
 use Rattle.tables.proofs.Lent.{leaves_none, leaves_over}
 use Rattle.blocks.specs.Headers.{Bytes}
-use Rattle.refusals.specs.declared.Refusal.{Refusal}
-use Rattle.refusals.specs.Said.{answers, refuses, refusal}
+use Rattle.refusals.specs.declared.Numbers.{Numbers}
+use Rattle.refusals.specs.Said.{answers, refuses, refusal, result_says}
 use Rattle.refusals.proofs.Said.{by_said}
-use Rattle.sp.specs.Outcome.{room_in, demuxed_says}
+use Rattle.sp.specs.Outcome.{room_in}
 use Rattle.hold.proofs.Front.{dss_fits}
 use Rattle.reader.specs.declared.Reader.{Reader}
 use Rattle.reader.specs.declared.Step.{Step}
@@ -30,7 +30,7 @@ pub reached_opened : (kind : ℕ) {step : Step} → Opens kind step → Reached 
 reached_opened kind opens = reached_by opens
 
 -- A refused open gives back an ended reader of kind 0.
-pub refused_open_ends : (kind : ℕ) {step : Step} → Opens kind step → (why : Refusal) → demuxed_says step.answer ≡ refusal why
+pub refused_open_ends : (kind : ℕ) {step : Step} → Opens kind step → (why : Numbers) → result_says step.answer ≡ refusal why
     → step.reader ≡ reader_of unopened
 refused_open_ends kind opens why e = (steps_by (after_open kind) e opens).reader_is
 
@@ -46,7 +46,7 @@ module _ {reader : Reader} {piece out out' counts counts' : List ℕ} {step : St
 
   -- A refused piece changes nothing: the reader, the output and the counts are as they were, and so the reader goes on as if the piece had
   -- not been given.
-  pub refused_piece_keeps : (why : Refusal) → demuxed_says step.answer ≡ refusal why
+  pub refused_piece_keeps : (why : Numbers) → result_says step.answer ≡ refusal why
       → (step.reader ≡ reader) × (out' ≡ out) × (counts' ≡ counts)
   refused_piece_keeps why e =
       let v = at_state known call in
@@ -67,7 +67,7 @@ module _ {reader : Reader} {choice : ℕ} {out out' counts counts' : List ℕ} {
   pub reached_end : Reached step.reader
   reached_end = reached_by (at_state known call).steps
 
-  pub refused_end_keeps : (why : Refusal) → demuxed_says step.answer ≡ refusal why
+  pub refused_end_keeps : (why : Numbers) → result_says step.answer ≡ refusal why
       → (step.reader ≡ reader) × (out' ≡ out) × (counts' ≡ counts)
   refused_end_keeps why e =
       let v = at_state known call in
@@ -83,10 +83,10 @@ module _ {reader : Reader} {choice : ℕ} {out out' counts counts' : List ℕ} {
 
 -- A strict end hands out nothing and touches no lent byte, answered or refused.
 pub strict_end_hands_nothing : {reader : Reader} {out out' counts counts' : List ℕ} {step : Step} → Reached reader
-    → EndCall reader strict out out' counts counts' step → (handed_by (demuxed_says step.answer) ≡ 0) × (out' ≡ out) × (counts' ≡ counts)
+    → EndCall reader strict out out' counts counts' step → (handed_by (result_says step.answer) ≡ 0) × (out' ≡ out) × (counts' ≡ counts)
 strict_end_hands_nothing {out = out} {counts = counts} {step = step} known call =
     let v = at_state known call in
-    by_said (demuxed_says step.answer)
+    by_said (result_says step.answer)
     (λ n said.
     let none = (strict_none known.sound (room_in out counts) (sym v.steps.answer_is ∙ said)).0 in
     let kept = hands_by (said ∙ ap answers none) v.steps v.hands in

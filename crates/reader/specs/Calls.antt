@@ -4,9 +4,9 @@ use Rattle.std.specs.Prelude.{ℕ, ◌+◌, ◌*◌, ◌-◌, ◌%◌, min, ◌�
 use Rattle.tables.specs.Lent.{over}
 use Rattle.blocks.specs.Places.{limit}
 use Rattle.blocks.specs.Headers.{Bytes}
-use Rattle.refusals.specs.Said.{Said, answers, refusal, refuses, demand}
+use Rattle.refusals.specs.Said.{Said, answers, refusal, refuses, demand, result_says}
 use Rattle.sp.specs.Readings.{Reading, joined_byte_at, file_count_at}
-use Rattle.sp.specs.Outcome.{room_in, demuxed_says}
+use Rattle.sp.specs.Outcome.{room_in}
 use Rattle.reader.specs.declared.Step.{Step}
 use Rattle.reader.specs.State.{State, opened, unopened, is_kind, start_of, reading_by, ready_by, fits_by, handed, owed, reader_of, header_full, Sound}
 
@@ -87,7 +87,7 @@ counts_after reading k (refusal why) counts = counts
 
 -- a call's answer and next state
 pub record Steps (said : Said ℕ) (next : State) (step : Step) : Type 0 where
-  pub answer_is : demuxed_says step.answer ≡ said
+  pub answer_is : result_says step.answer ≡ said
   pub reader_is : step.reader ≡ reader_of next
   pub sound : Sound next
 

@@ -3,10 +3,10 @@
 use Rattle.std.specs.Prelude.{ℕ, ◌+◌, ◌*◌, ◌≤◌, ◌<◌, ◌≡◌, List, [], ◌∷◌, ◌++◌, take}
 use Rattle.tables.specs.Table.{table}
 use Rattle.blocks.specs.Headers.{count_of, announced_in}
-use Rattle.refusals.specs.declared.Refusal.{Refusal}
-use Rattle.refusals.specs.Said.{answers, refusal}
+use Rattle.refusals.specs.declared.Numbers.{Numbers}
+use Rattle.refusals.specs.Said.{answers, refusal, result_says}
 use Rattle.sp.specs.Readings.{Reading, joined_byte_at, file_count_at, CompleteAt}
-use Rattle.sp.specs.Outcome.{room_in, demuxed_says}
+use Rattle.sp.specs.Outcome.{room_in}
 use Rattle.reader.specs.declared.Reader.{Reader}
 use Rattle.reader.specs.declared.Step.{Step}
 use Rattle.reader.specs.State.{State, owed, reader_of, Sound}
@@ -42,17 +42,17 @@ joined (piece ∷ rest) = piece ++ joined rest
 
 -- a call on a reader was refused, and gave another back: a piece, or an end by any choice
 pub data Refuses : Reader → Reader → Type 0 where
-  a_piece : {reader : Reader} (piece out out' counts counts' : List ℕ) (step : Step) (why : Refusal)
-      → PieceCall reader piece out out' counts counts' step → demuxed_says step.answer ≡ refusal why → Refuses reader step.reader
-  an_end : {reader : Reader} (choice : ℕ) (out out' counts counts' : List ℕ) (step : Step) (why : Refusal)
-      → EndCall reader choice out out' counts counts' step → demuxed_says step.answer ≡ refusal why → Refuses reader step.reader
+  a_piece : {reader : Reader} (piece out out' counts counts' : List ℕ) (step : Step) (why : Numbers)
+      → PieceCall reader piece out out' counts counts' step → result_says step.answer ≡ refusal why → Refuses reader step.reader
+  an_end : {reader : Reader} (choice : ℕ) (out out' counts counts' : List ℕ) (step : Step) (why : Numbers)
+      → EndCall reader choice out out' counts counts' step → result_says step.answer ≡ refusal why → Refuses reader step.reader
 
 -- a reader accepted these pieces, refused any other calls in between, and became another; n packets came out
 pub data Fed : Reader → List (List ℕ) → ℕ → List ℕ → List ℕ → Reader → Type 0 where
   none : {reader : Reader} → Fed reader [] 0 [] [] reader
   more : {reader last : Reader} {piece : List ℕ} {rest : List (List ℕ)} {n m : ℕ} {packets entries : List ℕ}
       (out out' counts counts' : List ℕ) (step : Step) → PieceCall reader piece out out' counts counts' step
-      → demuxed_says step.answer ≡ answers n → Fed step.reader rest m packets entries last
+      → result_says step.answer ≡ answers n → Fed step.reader rest m packets entries last
       → Fed reader (piece ∷ rest) (n + m) (take (42 * n) out' ++ packets) (take n counts' ++ entries) last
   refused : {reader next last : Reader} {pieces : List (List ℕ)} {n : ℕ} {packets entries : List ℕ} → Refuses reader next
       → Fed next pieces n packets entries last → Fed reader pieces n packets entries last
@@ -62,10 +62,10 @@ pub data Drained : Reader → List ℕ → ℕ → List ℕ → List ℕ → Rea
   none : {reader : Reader} → Drained reader [] 0 [] [] reader
   more : {reader last : Reader} {room : ℕ} {rest : List ℕ} {n m : ℕ} {packets entries : List ℕ}
       (out out' counts counts' : List ℕ) (step : Step) → room_in out counts ≡ room → EndCall reader lenient out out' counts counts' step
-      → demuxed_says step.answer ≡ answers n → Drained step.reader rest m packets entries last
+      → result_says step.answer ≡ answers n → Drained step.reader rest m packets entries last
       → Drained reader (room ∷ rest) (n + m) (take (42 * n) out' ++ packets) (take n counts' ++ entries) last
   strictly : {reader last : Reader} {rooms : List ℕ} {n m : ℕ} {packets entries : List ℕ} (out out' counts counts' : List ℕ) (step : Step)
-      → EndCall reader strict out out' counts counts' step → demuxed_says step.answer ≡ answers m → Drained step.reader rooms n packets entries last
+      → EndCall reader strict out out' counts counts' step → result_says step.answer ≡ answers m → Drained step.reader rooms n packets entries last
       → Drained reader rooms n packets entries last
   refused : {reader next last : Reader} {rooms : List ℕ} {n : ℕ} {packets entries : List ℕ} → Refuses reader next
       → Drained next rooms n packets entries last → Drained reader rooms n packets entries last
@@ -75,11 +75,11 @@ pub data Called : Reader → List (List ℕ) → ℕ → List ℕ → List ℕ �
   none : {reader : Reader} → Called reader [] 0 [] [] reader
   more : {reader last : Reader} {piece : List ℕ} {rest : List (List ℕ)} {n m : ℕ} {packets entries : List ℕ}
       (out out' counts counts' : List ℕ) (step : Step) → PieceCall reader piece out out' counts counts' step
-      → demuxed_says step.answer ≡ answers n → Called step.reader rest m packets entries last
+      → result_says step.answer ≡ answers n → Called step.reader rest m packets entries last
       → Called reader (piece ∷ rest) (n + m) (take (42 * n) out' ++ packets) (take n counts' ++ entries) last
   ended : {reader last : Reader} {pieces : List (List ℕ)} {n m : ℕ} {packets entries : List ℕ} (choice : ℕ)
       (out out' counts counts' : List ℕ) (step : Step) → EndCall reader choice out out' counts counts' step
-      → demuxed_says step.answer ≡ answers n → Called step.reader pieces m packets entries last
+      → result_says step.answer ≡ answers n → Called step.reader pieces m packets entries last
       → Called reader pieces (n + m) (take (42 * n) out' ++ packets) (take n counts' ++ entries) last
   refused : {reader next last : Reader} {pieces : List (List ℕ)} {n : ℕ} {packets entries : List ℕ} → Refuses reader next
       → Called next pieces n packets entries last → Called reader pieces n packets entries last

@@ -8,7 +8,7 @@ use mathlib.Core.Logic.{⊎_elim}
 use borrow.Author.Tests.{eqb-true}
 use lib.Dec.{eqb}
 use Rattle.tables.proofs.Cases.{by_test, never}
-use Rattle.refusals.specs.declared.Refusal.{Refusal}
+use Rattle.refusals.specs.declared.Numbers.{Numbers}
 use Rattle.refusals.specs.Numbers.{numbered, OfRecord, OnlyRecordsLack}
 use Rattle.refusals.specs.Said.{Said, answers, refuses, refusal, demand, demand_by, onward, is_among, Numbered}
 use Rattle.refusals.proofs.Said.{not_both}
@@ -17,17 +17,17 @@ module _ {A : Type 0} {numbers : List ℕ} where
   pub answered : (a : A) → Numbered numbers (answers a)
   answered a = record { among = λ why e. absurd (not_both (sym e)); only_records_lack = λ why e. absurd (not_both (sym e)) }
 
-  pub refused_so : (why : Refusal) → is_among numbers why.number ≡ true → OnlyRecordsLack why → Numbered {A = A} numbers (refusal why)
+  pub refused_so : (why : Numbers) → is_among numbers why.number ≡ true → OnlyRecordsLack why → Numbered {A = A} numbers (refusal why)
   refused_so why there lacks =
       record {
-        among = λ other e. let same : why ≡ other = cc in subst (λ (w : Refusal). is_among numbers w.number ≡ true) same there;
+        among = λ other e. let same : why ≡ other = cc in subst (λ (w : Numbers). is_among numbers w.number ≡ true) same there;
         only_records_lack = λ other e. let same : why ≡ other = cc in subst OnlyRecordsLack same lacks;
       }
 
   pub refused : (number beside : ℕ) → is_among numbers number ≡ true → Numbered {A = A} numbers (refuses number beside)
   refused number beside there = refused_so (numbered number beside) there (λ other. (refl, refl))
 
-  pub asked_by : (test : Bool) (why : Refusal) {rest : Said A} → is_among numbers why.number ≡ true → OnlyRecordsLack why → Numbered numbers rest
+  pub asked_by : (test : Bool) (why : Numbers) {rest : Said A} → is_among numbers why.number ≡ true → OnlyRecordsLack why → Numbered numbers rest
       → Numbered numbers (demand_by test why rest)
   asked_by true why there lacks then = then
   asked_by false why there lacks then = refused_so why there lacks
@@ -46,7 +46,7 @@ goes_on (refusal why) rest first then =
     }
 
 -- what refuses neither by 4 nor by 5 refuses no record
-pub not_of_record : {A : Type 0} {numbers : List ℕ} {said : Said A} {why : Refusal} → Numbered numbers said → is_among numbers 4 ≡ false
+pub not_of_record : {A : Type 0} {numbers : List ℕ} {said : Said A} {why : Numbers} → Numbered numbers said → is_among numbers 4 ≡ false
     → is_among numbers 5 ≡ false → said ≡ refusal why → OfRecord why.number → ⊥
 not_of_record {numbers = numbers} {why = why} is no-four no-five e =
     ⊎_elim (λ four. never (listed four) no-four) (λ five. never (listed five) no-five)

@@ -5,12 +5,12 @@ use mathlib.Core.Path.{◌≡◌, refl, sym, ap, ◌∙◌, subst}
 use mathlib.Core.List.{List}
 use mathlib.Core.Bool.{Bool, true, false}
 use native.Mathlib.Omega.{arith}
-use Rattle.refusals.specs.declared.Refusal.{Refusal}
+use Rattle.refusals.specs.declared.Numbers.{Numbers}
 use Rattle.refusals.specs.Numbers.{lacking, numbered}
 use Rattle.refusals.specs.Said.{Said, demand, demand_by, answers, onward, refusal, refuses}
 
 -- a call that refuses does not answer
-pub not_both : {A : Type 0} {a : A} {why : Refusal} → refusal why ≡ answers a → ⊥
+pub not_both : {A : Type 0} {a : A} {why : Numbers} → refusal why ≡ answers a → ⊥
 not_both e = let z : ◌≡◌ {A = ℕ} 0 1 = cc in omega arith
 
 -- what holds of an answer holds of any that is said to be the same
@@ -18,7 +18,7 @@ pub for_the_answer : {A : Type 0} (P : A → Type 0) {a b : A} → answers a ≡
 for_the_answer {A} P {a} {b} e h = let same : a ≡ b = cc in subst P same h
 
 -- what is answered after a test has passed it
-pub passed_by : {A : Type 0} {a : A} (test : Bool) (why : Refusal) (rest : Said A) → demand_by test why rest ≡ answers a
+pub passed_by : {A : Type 0} {a : A} (test : Bool) (why : Numbers) (rest : Said A) → demand_by test why rest ≡ answers a
     → (test ≡ true) × (rest ≡ answers a)
 passed_by true why rest e = (refl, e)
 passed_by false why rest e = absurd (not_both e)
@@ -28,7 +28,7 @@ pub passed : {A : Type 0} {a : A} (test : Bool) (number beside : ℕ) (rest : Sa
 passed test number beside rest e = passed_by test (numbered number beside) rest e
 
 -- what is refused at a test failed it, with that refusal, or is refused after it
-pub by_refusal : {A X : Type 0} (test : Bool) {why other : Refusal} {rest : Said A} → demand_by test why rest ≡ refusal other
+pub by_refusal : {A X : Type 0} (test : Bool) {why other : Numbers} {rest : Said A} → demand_by test why rest ≡ refusal other
     → (test ≡ true → rest ≡ refusal other → X) → (test ≡ false → why ≡ other → X) → X
 by_refusal true e after here = after refl e
 by_refusal false {why} {other} e after here = let same : why ≡ other = cc in here refl same
@@ -36,17 +36,17 @@ by_refusal false {why} {other} e after here = let same : why ≡ other = cc in h
 pub by_demand : {A X : Type 0} (test : Bool) {number beside m n : ℕ} {rest : Said A} → demand test number beside rest ≡ refuses m n
     → (test ≡ true → rest ≡ refuses m n → X) → (test ≡ false → number ≡ m → beside ≡ n → X) → X
 by_demand test e after here =
-    by_refusal test e after (λ failed same. here failed (ap (λ (why : Refusal). why.number) same) (ap (λ (why : Refusal). why.beside) same))
+    by_refusal test e after (λ failed same. here failed (ap (λ (why : Numbers). why.number) same) (ap (λ (why : Numbers). why.beside) same))
 
 -- a refusal by its four numbers
-pub by_numbers : (why : Refusal) {number beside size absent : ℕ} → why.number ≡ number → why.beside ≡ beside → why.size ≡ size
+pub by_numbers : (why : Numbers) {number beside size absent : ℕ} → why.number ≡ number → why.beside ≡ beside → why.size ≡ size
     → why.absent ≡ absent → why ≡ lacking number beside size absent
 by_numbers why {number} {beside} {size} {absent} a b c d =
     let same : lacking why.number why.beside why.size why.absent ≡ lacking number beside size absent = cc (a, b, c, d) in same
 
 -- a call answers or refuses: what a proof by cases goes by
 pub by_said : {A X : Type 0} (said : Said A) → ((a : A) → said ≡ answers a → X)
-    → ((why : Refusal) → said ≡ refusal why → X) → X
+    → ((why : Numbers) → said ≡ refusal why → X) → X
 by_said (answers a) answered refused = answered a refl
 by_said (refusal why) answered refused = refused why refl
 
@@ -72,18 +72,18 @@ asked_of (answers x) test number beside a e =
 asked_of (refusal why) test number beside a e = absurd (not_both e)
 
 -- an enum's value read from what it says: by its case for answers and its case for refusals
-abbrev pub read_from : {A E : Type 0} → (A → E) → (Refusal → E) → Said A → E
+abbrev pub read_from : {A E : Type 0} → (A → E) → (Numbers → E) → Said A → E
 read_from answer refuse (answers a) = answer a
 read_from answer refuse (refusal why) = refuse why
 
 -- what was refused in the end was refused at first, or answered and then refused
-pub by_onward : {A B X : Type 0} (said : Said A) (rest : A → Said B) {why : Refusal} → onward said rest ≡ refusal why
+pub by_onward : {A B X : Type 0} (said : Said A) (rest : A → Said B) {why : Numbers} → onward said rest ≡ refusal why
     → (said ≡ refusal why → X) → ((a : A) → said ≡ answers a → rest a ≡ refusal why → X) → X
 by_onward (answers a) rest e first then = then a refl e
 by_onward (refusal other) rest {why} e first then = let same : other ≡ why = cc in first (ap refusal same)
 
 -- what goes on from a refusal, and from an answer
-pub onward_refused : {A B : Type 0} {said : Said A} {why : Refusal} (rest : A → Said B) → refusal why ≡ said → onward said rest ≡ refusal why
+pub onward_refused : {A B : Type 0} {said : Said A} {why : Numbers} (rest : A → Said B) → refusal why ≡ said → onward said rest ≡ refusal why
 onward_refused rest e = rw (← e)
 
 pub onward_answered : {A B : Type 0} {said : Said A} {a : A} (rest : A → Said B) → answers a ≡ said → onward said rest ≡ rest a

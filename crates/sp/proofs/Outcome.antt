@@ -8,34 +8,36 @@ use native.Mathlib.Omega.{arith}
 use borrow.Author.Tests.{le-leb, leb-true}
 use lib.Dec.{leb}
 use Rattle.tables.proofs.Lent.{leaves_over}
-use Rattle.refusals.specs.declared.Refusal.{Refusal}
-use Rattle.refusals.specs.Numbers.{numbered}
-use Rattle.refusals.specs.Said.{Said, answers, refusal, onward}
-use Rattle.refusals.proofs.Said.{went_on, only_outcome_of, read_from, asked_of}
+use Rattle.refusals.specs.declared.Numbers.{Numbers}
+use Rattle.refusals.specs.declared.Refusal.TheVariants.{Room}
+use Rattle.refusals.specs.Numbers.{numbers_of}
+use Rattle.refusals.specs.Said.{Said, answers, refusal, onward, result_says}
+use Rattle.refusals.proofs.Said.{went_on, asked_of}
+use Rattle.refusals.proofs.Results.{only_result_with}
 use Rattle.sp.specs.declared.Run.{Run}
-use Rattle.sp.specs.declared.Demuxed.{Demuxed}
 use Rattle.whole.specs.declared.Recording.{Recording}
 use Rattle.whole.specs.Admissions.{announced_by, Sound}
-use Rattle.sp.specs.declared.Demuxed.TheVariants.{Packets, Refused}
 use Rattle.sp.specs.Readings.{Reading, total, reading_of, read_by}
-use Rattle.sp.specs.Outcome.{room_in, in_room, answered, demuxed_says, Demuxes}
+use Rattle.sp.specs.Outcome.{room_in, in_room, answered, Demuxes}
 use Rattle.sp.specs.Written.{Written}
 use Rattle.sp.specs.Inner.{Readable, Ready}
+use Rattle.std.specs.Prelude.{Result, Ok, Err}
+use Rattle.refusals.specs.declared.Refusal.{Refusal}
 
 -- a refusal is passed on
-pub passed_on : (why : Refusal) (out counts : List ℕ) → Demuxes (refusal why) out out counts counts (Refused why)
+pub passed_on : (why : Refusal) (out counts : List ℕ) → Demuxes (refusal (numbers_of why)) out out counts counts (Err why)
 unfolding in_room
 passed_on why out counts = record { answer_is = refl; out_is = refl; counts_are = refl }
 
 module _ (reading : Reading) (out counts : List ℕ) (needed : ℕ) (is : needed ≡ total reading) where
-  pub no_room : leb needed (room_in out counts) ≡ false → Demuxes (answers reading) out out counts counts (Refused (numbered 8 needed))
+  pub no_room : leb needed (room_in out counts) ≡ false → Demuxes (answers reading) out out counts counts (Err (Room needed))
   unfolding in_room
   no_room h =
       let full : leb (total reading) (room_in out counts) ≡ false = rw (← is) h in
       record { answer_is = simp (full, is); out_is = simp full; counts_are = simp full }
 
   pub with_room : (out' counts' : List ℕ) → leb needed (room_in out counts) ≡ true → Written reading out out' counts counts'
-      → Demuxes (answers reading) out out' counts counts' (Packets needed)
+      → Demuxes (answers reading) out out' counts counts' (Ok needed)
   unfolding in_room
   with_room out' counts' h w =
       let fits : leb (total reading) (room_in out counts) ≡ true = rw (← is) h in
@@ -59,10 +61,10 @@ is_ready f rec out counts needed readable is most h =
 
 -- what was said first: a refusal is passed on, and with a recording, or another answer, it goes on so
 module _ {A : Type 0} (said : Said A) (then : A → Said Reading) (out counts : List ℕ) where
-  pub not_taken : (why : Refusal) → refusal why ≡ said → Demuxes (onward said then) out out counts counts (Refused why)
+  pub not_taken : (why : Refusal) → refusal (numbers_of why) ≡ said → Demuxes (onward said then) out out counts counts (Err why)
   not_taken why e = rw (← e) (passed_on why out counts)
 
-  pub taken : (a : A) (out' counts' : List ℕ) (answer : Demuxed) → answers a ≡ said → Demuxes (then a) out out' counts counts' answer
+  pub taken : (a : A) (out' counts' : List ℕ) (answer : Result ℕ Refusal) → answers a ≡ said → Demuxes (then a) out out' counts counts' answer
       → Demuxes (onward said then) out out' counts counts' answer
   taken a out' counts' answer e d = rw (← e) d
 
@@ -78,8 +80,8 @@ read_by_lem f said runs r e =
     (w.0, w.1, cc)
 
 -- what an accepted call has read
-pub accepted_read : (reading : Said Reading) (out out' counts counts' : List ℕ) (answer : Demuxed) → Demuxes reading out out' counts counts' answer
-    → (n : ℕ) → demuxed_says answer ≡ answers n
+pub accepted_read : (reading : Said Reading) (out out' counts counts' : List ℕ) (answer : Result ℕ Refusal) → Demuxes reading out out' counts counts' answer
+    → (n : ℕ) → result_says answer ≡ answers n
     → (r : Reading) × (reading ≡ answers r) × (total r ≡ n) × (n ≤ room_in out counts) × (in_room reading (room_in out counts) ≡ answers r)
 unfolding in_room
 accepted_read reading out out' counts counts' answer d n e =
@@ -89,25 +91,14 @@ accepted_read reading out out' counts counts' answer d n e =
     let fits : total w.0 ≤ room_in out counts = leb-true (total w.0) (room_in out counts) v.1 in
     (w.0, v.0, many, omega (arith, many), w.1)
 
--- an answer is read back from what it says
-pub demuxed_back : (x : Demuxed) → read_from Packets Refused (demuxed_says x) ≡ x
-demuxed_back (Packets n) = refl
-demuxed_back (Refused why) = refl
-
 -- what is seen of an outcome
 abbrev pub Seen : Type 0
-Seen = Demuxed × List ℕ × List ℕ
+Seen = Result ℕ Refusal × List ℕ × List ℕ
 
-pub only_outcome : {reading : Said Reading} {out out₁ out₂ counts counts₁ counts₂ : List ℕ} {one other : Demuxed}
+pub only_outcome : {reading : Said Reading} {out out₁ out₂ counts counts₁ counts₂ : List ℕ} {one other : Result ℕ Refusal}
     → Demuxes reading out out₁ counts counts₁ one → Demuxes reading out out₂ counts counts₂ other
     → ◌≡◌ {A = Seen} (one, out₁, counts₁) (other, out₂, counts₂)
-only_outcome d e = only_outcome_of demuxed_says (read_from Packets Refused) demuxed_back d.answer_is e.answer_is d.out_is e.out_is d.counts_are e.counts_are
-
--- the reading of what was admitted is the reading of the file
-pub read_as : (f : List ℕ) (asked said : Said Recording) (runs : List ℕ → ℕ → ℕ → List Run) (out out' counts counts' : List ℕ) (answer : Demuxed)
-    → asked ≡ said → Demuxes (read_by f asked runs) out out' counts counts' answer → Demuxes (read_by f said runs) out out' counts counts' answer
-read_as f asked said runs out out' counts counts' answer e d =
-    subst (λ (x : Said Recording). Demuxes (read_by f x runs) out out' counts counts' answer) e d
+only_outcome d e = only_result_with d.answer_is e.answer_is d.out_is e.out_is d.counts_are e.counts_are
 
 -- a reading of no packets needs no room
 pub nothing_to_read : (r : Reading) (room : ℕ) → total r ≡ 0 → answered (in_room (answers r) room) ≡ answers 0
@@ -115,6 +106,6 @@ unfolding in_room
 nothing_to_read r room none = let fits : 0 ≤ room = omega arith in simp (none, le-leb 0 room fits)
 
 -- what is refused before the room is asked
-pub refused_before : (room : ℕ) (why : Refusal) → answered (in_room (refusal why) room) ≡ refusal why
+pub refused_before : (room : ℕ) (why : Numbers) → answered (in_room (refusal why) room) ≡ refusal why
 unfolding in_room
 refused_before room why = refl

@@ -16,9 +16,9 @@ use Rattle.blocks.specs.Headers.{swap_of, first_of, count_of, announced_in}
 use Rattle.blocks.proofs.Headers.{announced_none}
 use Rattle.magic.specs.declared.Magic.TheVariants.{Dss, Ds2}
 use Rattle.magic.specs.Magics.{magic_of}
-use Rattle.refusals.specs.declared.Refusal.{Refusal}
+use Rattle.refusals.specs.declared.Numbers.{Numbers}
 use Rattle.refusals.specs.Numbers.{numbered}
-use Rattle.refusals.specs.Said.{Said, answers, refuses, refusal}
+use Rattle.refusals.specs.Said.{Said, answers, refuses, refusal, result_says}
 use Rattle.refusals.proofs.Said.{not_both}
 use Rattle.whole.specs.declared.Recording.{Recording}
 use Rattle.detect.specs.declared.Kind.TheVariants.{Sp}
@@ -31,11 +31,10 @@ use Rattle.packets.specs.Walk.{Walk, byte_of, reach, parity}
 use Rattle.packets.proofs.Packets.{full_says, count_full}
 use Rattle.packets.proofs.Walk.{steps_place, steps_swap}
 use Rattle.sp.specs.declared.Run.{Run}
-use Rattle.sp.specs.declared.Demuxed.{Demuxed}
 use Rattle.sp.specs.Runs.{run_begin, carry_past}
 use Rattle.sp.specs.ReadLists.{dss_run, dss_runs, ds2_run, ds2_runs}
 use Rattle.sp.specs.Readings.{Reading, total, walk_at, packet_at, file_count_at, CompleteAt, joined_byte_at, reading_of, dss_reading, ds2_reading}
-use Rattle.sp.specs.Outcome.{room_in, in_room, answered, out_after, counts_after, demuxed_says, Demuxes}
+use Rattle.sp.specs.Outcome.{room_in, in_room, answered, out_after, counts_after, Demuxes}
 use Rattle.sp.specs.Written.{Written}
 use Rattle.sp.specs.Longer.{SameAt}
 use Rattle.sp.proofs.Runs.{stands_first, carry_at_first, carry_goes_on}
@@ -46,10 +45,12 @@ use Rattle.sp.proofs.demux_dss.Kinds as dss
 use Rattle.sp.proofs.demux_dss.Reads as dss-reads
 use Rattle.sp.proofs.demux_ds2.Kinds as ds2
 use Rattle.sp.proofs.demux_ds2.Reads as ds2-reads
+use Rattle.std.specs.Prelude.{Result, Ok, Err}
+use Rattle.refusals.specs.declared.Refusal.{Refusal}
 
-module _ (reading : Said Reading) (out out' counts counts' : List ℕ) (answer : Demuxed) (d : Demuxes reading out out' counts counts' answer) where
+module _ (reading : Said Reading) (out out' counts counts' : List ℕ) (answer : Result ℕ Refusal) (d : Demuxes reading out out' counts counts' answer) where
   -- A refused call changes nothing.
-  pub refused_changes_nothing : (why : Refusal) → demuxed_says answer ≡ refusal why → (out' ≡ out) × (counts' ≡ counts)
+  pub refused_changes_nothing : (why : Numbers) → result_says answer ≡ refusal why → (out' ≡ out) × (counts' ≡ counts)
   refused_changes_nothing why e =
       let kept = refused (in_room reading (room_in out counts)) (sym d.answer_is ∙ e) in
       (d.out_is ∙ kept.0, d.counts_are ∙ kept.1)
@@ -60,7 +61,7 @@ module _ (reading : Said Reading) (out out' counts counts' : List ℕ) (answer :
 
   -- An accepted call leaves the reading's packets joined from the front of the output on, and their counts from the front of the table
   -- on. Every other place of both is as it was, and so are the lengths.
-  pub accepted_writes : (n : ℕ) → demuxed_says answer ≡ answers n
+  pub accepted_writes : (n : ℕ) → result_says answer ≡ answers n
       → (r : Reading) × (reading ≡ answers r) × (total r ≡ n) × Written r out out' counts counts'
   accepted_writes n e =
       let w = accepted_read reading out out' counts counts' answer d n e in

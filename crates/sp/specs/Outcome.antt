@@ -1,11 +1,10 @@
 -- What an SP call answers and leaves in the two lent buffers, given its reading: refusal 8 with the packets needed, or all
 -- the packets and their counts. A refused call leaves everything as it was. Assumes nothing.
-use Rattle.std.specs.Prelude.{ℕ, ◌*◌, ◌/◌, min, ◌≡◌, List, length, leb}
+use Rattle.std.specs.Prelude.{ℕ, ◌*◌, ◌/◌, min, ◌≡◌, List, length, leb, Result, Ok, Err}
 use Rattle.tables.specs.Lent.{over}
-use Rattle.refusals.specs.Said.{Said, answers, refusal, demand, onward}
-use Rattle.sp.specs.declared.Demuxed.{Demuxed}
-use Rattle.sp.specs.declared.Demuxed.TheVariants.{Packets, Refused}
+use Rattle.refusals.specs.Said.{Said, answers, refusal, demand, onward, result_says}
 use Rattle.sp.specs.Readings.{Reading, total, joined_byte_at, file_count_at}
+use Rattle.refusals.specs.declared.Refusal.{Refusal}
 
 -- room for packets: the smaller of the output's length by 42 and the count table's
 abbrev pub room_in : List ℕ → List ℕ → ℕ
@@ -28,13 +27,8 @@ abbrev pub counts_after : Said Reading → List ℕ → List ℕ
 counts_after (answers reading) counts = over (total reading) (file_count_at reading) counts
 counts_after (refusal why) counts = counts
 
--- the code's answer, read so
-abbrev pub demuxed_says : Demuxed → Said ℕ
-demuxed_says (Packets n) = answers n
-demuxed_says (Refused why) = refusal why
-
 -- the call's outcome is the definition's: answer, output and counts
-pub record Demuxes (reading : Said Reading) (out out' counts counts' : List ℕ) (answer : Demuxed) : Type 0 where
-  pub answer_is : demuxed_says answer ≡ answered (in_room reading (room_in out counts))
+pub record Demuxes (reading : Said Reading) (out out' counts counts' : List ℕ) (answer : Result ℕ Refusal) : Type 0 where
+  pub answer_is : result_says answer ≡ answered (in_room reading (room_in out counts))
   pub out_is : out' ≡ out_after (in_room reading (room_in out counts)) out
   pub counts_are : counts' ≡ counts_after (in_room reading (room_in out counts)) counts

@@ -5,8 +5,8 @@
 ghost use Rattle.std.specs.Prelude.{◌≡◌, ◌+◌, ◌*◌, ◌/◌, ◌≤◌, ◌<◌, ◌^◌, min, cond, length, get_or, leb};
 ghost use Rattle.tables.specs.Lent.{Leaves};
 ghost use Rattle.blocks.specs.Places.{Whole, stream_at};
-ghost use Rattle.refusals.specs.Said.{answers};
-ghost use Rattle.whole.specs.Admissions.{announced_by, admission_says};
+ghost use Rattle.refusals.specs.Said.{answers, result_says};
+ghost use Rattle.whole.specs.Admissions.{announced_by};
 ghost use Rattle.sp.specs.Runs.{run_begin};
 ghost use Rattle.sp.specs.ReadLists.{dss_run, dss_runs, ds2_runs};
 ghost use Rattle.sp.specs.Readings.{reading_of, read_by, dss_reading, ds2_reading};
@@ -18,7 +18,7 @@ use blocks::{FilePlace, StreamPlace};
 use detect::Kind;
 use packets::{PACKET, Packet};
 use refusals::Refusal;
-use whole::{Admission, Recording};
+use whole::Recording;
 
 // Reads that follow one another: from a start, by a parity to begin with, so many packets. Public for the definitions and for the
 // crates above.
@@ -29,26 +29,13 @@ pub struct Run {
     pub count: usize,
 }
 
-// How many packets were handed out, or why the call refuses.
-#[derive(Clone, Copy)]
-pub enum Demuxed {
-    Packets(usize),
-    Refused(Refusal),
-}
-
 // For the crates above too. Puts a packet and its count under a number.
 pub fn put(packet: Packet, number: usize, out: &mut [u8], counts: &mut [u8])
     requires room { (42 * (number + 1) ≤ length out.old) × (number < length counts.old) }
     ensures bytes { Leaves out.old (42 * number) 42 (λ i. get_or packet.bytes i 0) out.new }
     ensures count { Leaves counts.old number 1 (λ i. packet.count) counts.new }
 {
-    let bytes = packet.bytes;
-    let to = PACKET * number;
-    let mut i = 0;
-    while i < PACKET {
-        out[to + i] = bytes[i];
-        i += 1;
-    }
+    tables::copy(out, PACKET * number, &packet.bytes, 0, PACKET);
     counts[number] = packet.count;
 }
 
@@ -70,19 +57,15 @@ pub fn write_run(
 {
     let start = recording.start;
     let blocks = recording.blocks;
-    let count = run.count;
     let mut place = run.start;
     let mut swap = run.swap;
     let mut carried = carry;
-    let mut n: usize = 0;
-    while n < count {
+    for n in 0..run.count {
         let packet = packets::read_packet(file, start, blocks, place, swap, carried);
         place = packet.next;
         carried = packet.carry;
         swap = !swap;
-        let number = base + n;
-        put(packet, number, out, counts);
-        n += 1;
+        put(packet, base + n, out, counts);
     }
     carried
 }
@@ -92,7 +75,7 @@ pub fn dss_run(file: &[u8], a: FilePlace, block: usize) -> Run
     requires { Whole file.now a.0 (block + 1) × (block ≤ 2 ^ 32) }
     ensures { (result ≡ dss_run file.now a.0 block) × (result.count ≤ 255) }
 {
-    let byte1 = tables::wide(blocks::header_byte(file, a, block, 1));
+    let byte1 = usize::from(blocks::header_byte(file, a, block, 1));
     let swap = blocks::swap_flag(file, a, block);
     let start = packets::dss_start(block, byte1, swap);
     let count = blocks::count_byte(file, a, block);
@@ -104,17 +87,12 @@ fn write_dss(file: &[u8], recording: Recording, out: &mut [u8], counts: &mut [u8
     requires { Ready file.now recording out.old counts.old }
     ensures { Written (reading_of file.now recording dss_runs) out.old out.new counts.old counts.new }
 {
-    let start = recording.start;
-    let blocks = recording.blocks;
     let mut first: usize = 0;
     let mut carry: u8 = 0;
-    let mut block = 0;
-    while block < blocks {
-        let run = dss_run(file, start, block);
-        let count = run.count;
+    for block in 0..recording.blocks {
+        let run = dss_run(file, recording.start, block);
         carry = write_run(file, recording, run, carry, first, out, counts);
-        first += count;
-        block += 1;
+        first += run.count;
     }
 }
 
@@ -126,11 +104,9 @@ fn write_ds2(file: &[u8], recording: Recording, needed: usize, out: &mut [u8], c
     if needed == 0 {
         return;
     }
-    let start = recording.start;
-    let swap = blocks::swap_flag(file, start, 0);
     let run = Run {
         start: StreamPlace(0),
-        swap,
+        swap: blocks::swap_flag(file, recording.start, 0),
         count: needed,
     };
     write_run(file, recording, run, 0, 0, out, counts);
@@ -140,7 +116,7 @@ fn write_ds2(file: &[u8], recording: Recording, needed: usize, out: &mut [u8], c
 pub fn has_room(needed: usize, out: usize, counts: usize) -> bool
     ensures { result ≡ leb needed (min (out / 42) counts) }
 {
-    needed <= tables::lesser(out / PACKET, counts)
+    needed <= counts.min(out / PACKET)
 }
 
 // Hands out a recording that announces so many packets, and for which there is room.
@@ -163,41 +139,38 @@ fn hand_out(
 }
 
 // Hands out a recording if there is room for all its packets.
-fn read(file: &[u8], recording: Recording, dss: bool, out: &mut [u8], counts: &mut [u8]) -> Demuxed
+fn read(
+    file: &[u8],
+    recording: Recording,
+    dss: bool,
+    out: &mut [u8],
+    counts: &mut [u8],
+) -> Result<usize, Refusal>
     requires { Readable file.now recording }
     ensures { Demuxes (answers (reading_of file.now recording (cond dss dss_runs ds2_runs))) out.old out.new counts.old counts.new result }
 {
     let needed = recording.announced(file);
     if !has_room(needed, out.len(), counts.len()) {
-        return Demuxed::Refused(Refusal::room(needed));
+        return Err(Refusal::Room(needed));
     }
     hand_out(file, recording, dss, needed, out, counts);
-    Demuxed::Packets(needed)
-}
-
-// Hands out an admitted recording, and passes a refusal on.
-fn demux(asked: Admission, file: &[u8], dss: bool, out: &mut [u8], counts: &mut [u8]) -> Demuxed
-    requires { AllReadable file.now (admission_says asked) }
-    ensures { Demuxes (read_by file.now (admission_says asked) (cond dss dss_runs ds2_runs)) out.old out.new counts.old counts.new result }
-{
-    match asked {
-        Admission::Refused(why) => Demuxed::Refused(why),
-        Admission::Admitted(recording) => read(file, recording, dss, out, counts),
-    }
+    Ok(needed)
 }
 
 // The packets of a DSS file and their file-byte counts, or a refusal that changes nothing.
-pub fn demux_dss(file: &[u8], out: &mut [u8], counts: &mut [u8]) -> Demuxed
+#[tactic(auto, using(crate::proofs::Outcome::may_read), unfolding(crate::specs::Readings::dss_reading, crate::specs::Outcome::in_room))]
+pub fn demux_dss(file: &[u8], out: &mut [u8], counts: &mut [u8]) -> Result<usize, Refusal>
     ensures { Demuxes (dss_reading file.now) out.old out.new counts.old counts.new result }
 {
-    let asked = whole::admit(file, true, false);
-    demux(asked, file, true, out, counts)
+    let recording = whole::admit(file, true, false)?;
+    read(file, recording, true, out, counts)
 }
 
 // The packets of a DS2 SP file and their file-byte counts, or a refusal that changes nothing.
-pub fn demux_ds2(file: &[u8], out: &mut [u8], counts: &mut [u8]) -> Demuxed
+#[tactic(auto, using(crate::proofs::Outcome::may_read), unfolding(crate::specs::Readings::ds2_reading, crate::specs::Outcome::in_room))]
+pub fn demux_ds2(file: &[u8], out: &mut [u8], counts: &mut [u8]) -> Result<usize, Refusal>
     ensures { Demuxes (ds2_reading file.now) out.old out.new counts.old counts.new result }
 {
-    let asked = whole::admit_ds2(file, Kind::Sp);
-    demux(asked, file, false, out, counts)
+    let recording = whole::admit_ds2(file, Kind::Sp)?;
+    read(file, recording, false, out, counts)
 }

@@ -4,7 +4,7 @@ use Prim.Native.Nat.{ℕ}
 use mathlib.Core.Path.{◌≡◌, refl, sym, ap, ◌∙◌}
 use mathlib.Core.List.{List}
 use mathlib.Core.Bool.{Bool, true, false, cond, not}
-use Rattle.refusals.specs.declared.Refusal.{Refusal}
+use Rattle.refusals.specs.declared.Numbers.{Numbers}
 use Rattle.refusals.specs.Said.{Said, answers, refusal, onward}
 use Rattle.refusals.proofs.Said.{by_said, went_on, for_the_answer}
 use Rattle.magic.specs.Magics.{names_dss}
@@ -65,7 +65,7 @@ module _ (f : List ℕ) where
       rw e
       (ap (λ (r : Recording). onward (gathered_from f rec) (λ g. answers (records_out (stream_in f r) g.records))) (sym at))
 
-  refused_agrees : (kind : Kind) {why : Refusal} → refusal why ≡ ds2_admission f kind → refusal why ≡ whole_out (ds2_kind kind) f
+  refused_agrees : (kind : Kind) {why : Numbers} → refusal why ≡ ds2_admission f kind → refusal why ≡ whole_out (ds2_kind kind) f
   unfolding ds2_reading qp_reading qp7_reading
   refused_agrees Sp e = rw (← e)
   refused_agrees Qp e = rw (← e)

@@ -12,28 +12,27 @@ use Rattle.tables.proofs.Cases.{by_equal}
 use Rattle.tables.proofs.Table.{sum_more, sum_none}
 use Rattle.blocks.specs.Places.{stream_at}
 use Rattle.blocks.specs.Headers.{first_of, count_of}
-use Rattle.refusals.specs.declared.Refusal.{Refusal}
-use Rattle.refusals.specs.Said.{Said, answers, onward}
+use Rattle.refusals.specs.declared.Numbers.{Numbers}
+use Rattle.refusals.specs.Said.{Said, answers, onward, result_says}
 use Rattle.refusals.proofs.Said.{for_the_answer}
 use Rattle.whole.specs.declared.Recording.{Recording}
 use Rattle.whole.specs.Admissions.{stream_in}
 use Rattle.frames.specs.Start.{frames_start}
 use Rattle.qp7.specs.declared.Totals.{Totals}
 use Rattle.qp7.specs.declared.Walk.{Walk}
-use Rattle.qp7.specs.declared.Walked.{Walked}
-use Rattle.qp7.specs.declared.Walked.TheVariants.{Refused}
 use Rattle.qp7.specs.Records.{record_size}
 use Rattle.qp7.specs.Walk.{Gathered, nothing, raised, closing, reads, with_block, gathered_to, gathered_from}
-use Rattle.qp7.specs.Inner.{numbers_of, numbers_at, walked_says}
+use Rattle.qp7.specs.Inner.{numbers_of, numbers_at}
 use Rattle.qp7.proofs.Records.{record_found}
 use Rattle.qp7.proofs.Closing.{closing_records, closing_place}
 use Rattle.qp7.proofs.Reading.{reads_keep}
 use Rattle.qp7.proofs.Blockwise.{silent_is, announcing_is}
 use Rattle.qp7.proofs.Gathering.{up_to, gone_on, Gathers, gathered_more, gathered_from_lem, gathering_begins, stands_refused}
 use Rattle.tally.specs.declared.FileKind.TheVariants.{Ds2Qp7}
-use Rattle.tally.specs.declared.Counts.TheVariants.{Are, Untold}
 use Rattle.tally.specs.HandedOut.{sizes_of, records_out}
-use Rattle.tally.specs.Tallies.{handed_by, counts_say}
+use Rattle.tally.specs.Tallies.{handed_by}
+use Rattle.std.specs.Prelude.{Result, Ok, Err}
+use Rattle.refusals.specs.declared.Refusal.{Refusal}
 
 -- records that are read follow one another: they have as many bytes as the read place moves
 reads_sizes : (s : ℕ → ℕ) (long n : ℕ) (g g' : Gathered) → reads s long n g ≡ answers g'
@@ -109,17 +108,17 @@ tallying_goes_on {f} {rec} {walk = walk} {walk'} {b} {bytes} t next read is =
         (ap (λ (w : Walk). w.place.0) t.so.stands) (ap (λ (w : Walk). w.place.0) next.stands) is
 
 -- a block that is refused
-pub told_why : (f : List ℕ) (rec : Recording) (came : Walked) (why : Refusal) → came ≡ Refused why
-    → walked_says came ≡ numbers_at (gathered_from f rec) → counts_say (Untold why) ≡ handed_by Ds2Qp7 f rec
+pub told_why : (f : List ℕ) (rec : Recording) (came : Result Walk Refusal) (why : Numbers) → came ≡ Err why
+    → result_says came ≡ numbers_at (gathered_from f rec) → result_says (Err why) ≡ handed_by Ds2Qp7 f rec
 told_why f rec came why is says =
     sym
     (ap (λ (said : Said Gathered). onward said (λ g. answers (records_out (stream_in f rec) g.records)))
-    (stands_refused (gathered_from f rec) (ap walked_says (sym is) ∙ says)))
+    (stands_refused (gathered_from f rec) (ap result_says (sym is) ∙ says)))
 
 -- all blocks: closing the last segment changes no record
 pub tallying_ends : {f : List ℕ} {rec : Recording} {most : Totals} {records records' segments segments' : List ℕ} {walk : Walk} {b bytes : ℕ}
     → Tallying f rec most records records' segments segments' walk b bytes → rec.blocks ≡ b
-    → counts_say (Are (record { many = walk.records; short = 0; bytes = bytes })) ≡ handed_by Ds2Qp7 f rec
+    → result_says (Ok (record { many = walk.records; short = 0; bytes = bytes })) ≡ handed_by Ds2Qp7 f rec
 tallying_ends {f} {rec} {walk = walk} {b} {bytes} t done =
     let many : walk.records ≡ length t.so.here.records = ap (λ (w : Walk). w.records) t.so.stands in
     let sizes = t.bytes_are in

@@ -10,9 +10,9 @@ use Rattle.tables.specs.Settled.{SettledResult}
 use Rattle.tables.proofs.Cases.{by_order, never}
 use Rattle.tables.proofs.Counting.{none_counted}
 use Rattle.blocks.specs.Headers.{Bytes}
-use Rattle.refusals.specs.declared.Refusal.{Refusal}
+use Rattle.refusals.specs.declared.Numbers.{Numbers}
 use Rattle.refusals.specs.Numbers.{OfRecord}
-use Rattle.refusals.specs.Said.{answers, refusal, refuses, is_among, Numbered}
+use Rattle.refusals.specs.Said.{answers, refusal, refuses, is_among, Numbered, result_says}
 use Rattle.refusals.proofs.Said.{not_both, by_onward, went_on, for_the_answer, only_one, read_from}
 use Rattle.refusals.proofs.Numbered.{not_of_record}
 use Rattle.magic.specs.declared.Magic.TheVariants.{Other}
@@ -38,15 +38,15 @@ use Rattle.tally.specs.declared.HandedOut.{HandedOut}
 use Rattle.tally.specs.declared.FileKind.{FileKind}
 use Rattle.tally.specs.declared.FileKind.TheVariants.{DssSp, Ds2Sp, Ds2Qp, Ds2Qp7}
 use Rattle.tally.specs.declared.Figures.{Figures}
-use Rattle.tally.specs.declared.Tallied.{Tallied}
-use Rattle.tally.specs.declared.Tallied.TheVariants.{Counted, Refused}
 use Rattle.tally.specs.HandedOut.{packets_out, records_out}
-use Rattle.tally.specs.Tallies.{handed_by, counted_as, kind_in, tallied, tally_refusals, tallied_says}
+use Rattle.tally.specs.Tallies.{handed_by, counted_as, kind_in, tallied, tally_refusals}
 use Rattle.tally.specs.Agreement.{kind_for, whole_out, tallied_out, ShortAre}
 use Rattle.tally.proofs.Agreeing.{agrees, counting}
 use Rattle.tally.proofs.Refusing.{tallying}
 use Rattle.tally.proofs.tally.Kinds as tally
 use Rattle.tally.proofs.tally.Reads as tally-reads
+use Rattle.std.specs.Prelude.{Result, Ok, Err}
+use Rattle.refusals.specs.declared.Refusal.{Refusal}
 
 -- The tally says of every file what the whole reading of its kind hands out, and refuses exactly as that reading does.
 pub tally_is_the_reading : (f : List ℕ) → tallied_out f ≡ whole_out (kind_for f) f
@@ -137,7 +137,7 @@ module _ (f : List ℕ) (figures : Figures) (says : tallied f ≡ answers figure
       (records_many f rec w.0 w.1 ∙ sym c.announced_are)
 
 -- what is handed out is refused for a record only
-handed_lacks : (kind : FileKind) (f : List ℕ) (rec : Recording) {why : Refusal} → Bytes f → handed_by kind f rec ≡ refusal why
+handed_lacks : (kind : FileKind) (f : List ℕ) (rec : Recording) {why : Numbers} → Bytes f → handed_by kind f rec ≡ refusal why
     → Lacks f rec why
 handed_lacks DssSp f rec bytes e = absurd (not_both (sym e))
 handed_lacks Ds2Sp f rec bytes e = absurd (not_both (sym e))
@@ -147,7 +147,7 @@ handed_lacks Ds2Qp7 f rec bytes e =
     (λ g came r. absurd (not_both (sym r)))
 
 -- A file that the tally refuses by 4 or 5 was admitted, and the refusal says how much is missing, as that of the whole reading does.
-pub tally_lacks : (f : List ℕ) → Bytes f → (why : Refusal) → tallied f ≡ refusal why → OfRecord why.number
+pub tally_lacks : (f : List ℕ) → Bytes f → (why : Numbers) → tallied f ≡ refusal why → OfRecord why.number
     → (rec : Recording) × (admission f (names_dss f) (not (names_dss f)) ≡ answers rec) × Lacks f rec why
 unfolding tallied is_among
 tally_lacks f bytes why e of-record =
@@ -165,11 +165,11 @@ pub refused_by : (f : List ℕ) → Numbered tally_refusals (tallied f)
 refused_by f = tallying f
 
 -- an answer is read back from what it says
-tallied_back : (x : Tallied) → read_from Counted Refused (tallied_says x) ≡ x
-tallied_back (Counted figures) = refl
-tallied_back (Refused why) = refl
+tallied_back : (x : Result Figures Refusal) → read_from Ok Err (result_says x) ≡ x
+tallied_back (Ok figures) = refl
+tallied_back (Err why) = refl
 
 -- Two outcomes of `tally` that its contract allows for the same arguments are equal. The contract is the one in the source, as the check
 -- reads it.
 pub tally_settled : SettledResult 1 tally.ps tally.r tally-reads.Post
-tally_settled κs a x y s t p q = only_one tallied_says (read_from Counted Refused) tallied_back x y _ p q
+tally_settled κs a x y s t p q = only_one result_says (read_from Ok Err) tallied_back x y _ p q

@@ -4,7 +4,7 @@ use Prim.Native.Nat.{ℕ}
 use mathlib.Core.Path.{◌≡◌, ap, ◌∙◌}
 use mathlib.Core.List.{List}
 use mathlib.Core.Bool.{Bool, not}
-use Rattle.refusals.specs.declared.Refusal.{Refusal}
+use Rattle.refusals.specs.declared.Numbers.{Numbers}
 use Rattle.refusals.specs.Said.{Said, answers, refusal}
 use Rattle.magic.specs.Magics.{names_dss}
 use Rattle.whole.specs.declared.Recording.{Recording}
@@ -20,7 +20,7 @@ module _ (f : List ℕ) (rec : Recording) where
   handed_as p e = rw p e
 
   -- what cannot be told, and what is counted
-  pub not_told : (kind : FileKind) {why : Refusal} → refusal why ≡ handed_by kind f rec → refusal why ≡ counted_as kind f rec
+  pub not_told : (kind : FileKind) {why : Numbers} → refusal why ≡ handed_by kind f rec → refusal why ≡ counted_as kind f rec
   not_told kind e = rw (← e)
 
   pub counted : (kind : FileKind) {announced : ℕ} {out : HandedOut} → announced ≡ announced_by f rec → answers out ≡ handed_by kind f rec
@@ -29,7 +29,7 @@ module _ (f : List ℕ) (rec : Recording) where
 
 -- what is not admitted, and what is
 module _ (f : List ℕ) (dss : Bool) (is : dss ≡ names_dss f) where
-  pub not_admitted : {why : Refusal} → refusal why ≡ admission f dss (not dss) → refusal why ≡ tallied f
+  pub not_admitted : {why : Numbers} → refusal why ≡ admission f dss (not dss) → refusal why ≡ tallied f
   unfolding tallied
   not_admitted e = rw (← is, ← e)
 

@@ -1,7 +1,7 @@
 -- The tally of any file: its kind, audio start, whole blocks, announced frames, and what its whole reading hands out; or the refusal
 -- that the whole reading gives. Assumes nothing.
-use Rattle.std.specs.Prelude.{ℕ, List, [], ◌∷◌, Bool, cond, not}
-use Rattle.refusals.specs.Said.{Said, answers, refusal, onward}
+use Rattle.std.specs.Prelude.{ℕ, List, [], ◌∷◌, Bool, cond, not, Result, Ok, Err}
+use Rattle.refusals.specs.Said.{Said, answers, refusal, onward, result_says}
 use Rattle.magic.specs.Magics.{names_dss}
 use Rattle.whole.specs.declared.Recording.{Recording}
 use Rattle.detect.specs.declared.Kind.{Kind}
@@ -16,11 +16,8 @@ use Rattle.tally.specs.declared.HandedOut.{HandedOut}
 use Rattle.tally.specs.declared.FileKind.{FileKind}
 use Rattle.tally.specs.declared.FileKind.TheVariants.{DssSp, Ds2Sp, Ds2Qp, Ds2Qp7}
 use Rattle.tally.specs.declared.Figures.{Figures}
-use Rattle.tally.specs.declared.Tallied.{Tallied}
-use Rattle.tally.specs.declared.Tallied.TheVariants.{Counted, Refused}
-use Rattle.tally.specs.declared.Counts.{Counts}
-use Rattle.tally.specs.declared.Counts.TheVariants.{Are, Untold}
 use Rattle.tally.specs.HandedOut.{packets_out, frames_out, records_out}
+use Rattle.refusals.specs.declared.Refusal.{Refusal}
 
 -- of a recording of this kind that hands out so much
 abbrev pub figures_of : FileKind → List ℕ → Recording → HandedOut → Figures
@@ -57,12 +54,3 @@ tallied f = tallied_as (names_dss f) f
 -- these are its refusals
 abbrev pub tally_refusals : List ℕ
 tally_refusals = 1 ∷ 2 ∷ 3 ∷ 4 ∷ 5 ∷ []
-
--- the code's answers, read so
-abbrev pub tallied_says : Tallied → Said Figures
-tallied_says (Counted figures) = answers figures
-tallied_says (Refused why) = refusal why
-
-abbrev pub counts_say : Counts → Said HandedOut
-counts_say (Are out) = answers out
-counts_say (Untold why) = refusal why

@@ -18,10 +18,9 @@ fn of_open(gathering: Gathering, end: usize) -> HandedOut
     ensures counted { (g : Gathered) → gathering ≡ numbers_of g → result ≡ frames_out (open_segment end g ∷ []) }
     ensures few { (result.many ≤ gathering.frames) × (result.short ≤ gathering.frames) × (result.bytes ≤ 56 * gathering.frames) }
 {
-    let stop = tables::lesser(gathering.place.0, end);
-    let long = stop - gathering.start.0;
+    let long = end.min(gathering.place.0) - gathering.start.0;
     let whole = long / FRAME;
-    let short = tables::lesser(1, long % FRAME);
+    let short = (long % FRAME).min(1);
     HandedOut {
         many: whole + short,
         short,
@@ -46,9 +45,7 @@ pub fn of_qp(file: &[u8], recording: Recording) -> HandedOut
     requires { Sound file.now recording }
     ensures { result ≡ frames_out (segments_from file.now recording) }
 {
-    let start = recording.start;
-    let blocks = recording.blocks;
-    let end = PAYLOAD * blocks;
+    let end = PAYLOAD * recording.blocks;
     let mut table = [0u32; 0];
     let mut gathering = Gathering {
         start: StreamPlace(0),
@@ -61,14 +58,11 @@ pub fn of_qp(file: &[u8], recording: Recording) -> HandedOut
         short: 0,
         bytes: 0,
     };
-    let mut block = 0;
-    while block < blocks {
-        let at = frames::block_start(file, start, block);
+    for block in 0..recording.blocks {
+        let at = frames::block_start(file, recording.start, block);
         out = after_arrival(out, gathering, at, end);
         let arrived = qp::arrive(gathering, at, end, 0, &mut table);
-        let count = blocks::count_byte(file, start, block);
-        gathering = qp::add(arrived, count);
-        block += 1;
+        gathering = qp::add(arrived, blocks::count_byte(file, recording.start, block));
     }
     crate::together(out, of_open(gathering, end))
 }

@@ -27,13 +27,7 @@ struct Added {
 fn ours_in(swap: bool, sourced: bool, complete: usize) -> usize
     ensures { (result ≡ ours_in swap sourced complete) × (result ≤ complete) }
 {
-    if complete == 0 {
-        return 0;
-    }
-    if sourced {
-        return 0;
-    }
-    if swap { 1 } else { 0 }
+    usize::from(swap && !sourced && complete != 0)
 }
 
 // Whether what is carried past a run came from the file, if so many bytes are left for it: byte 40 of its last unswapped read, which is the last
@@ -53,10 +47,7 @@ fn sourced_past(swap: bool, count: usize, left: usize, sourced: bool) -> bool
 fn sourced_past_complete(swap: bool, count: usize, sourced: bool) -> bool
     ensures { (left : ℕ) → reach swap count ≤ left → result ≡ past_by swap count left sourced }
 {
-    if packets::swap_bit(swap) < count {
-        return true;
-    }
-    sourced
+    packets::swap_bit(swap) < count || sourced
 }
 
 // What a run adds whose reads are all complete, as those of nearly every run are, and end so many bytes on.
@@ -96,15 +87,12 @@ fn of_run(run: Run, long: usize, sourced: bool) -> Added
     ensures adds { (s : ℕ → ℕ) (runs : List Run) → sourced ≡ sourced_past s long runs → Adds s long runs run result }
     ensures few { (result.out.many ≡ run.count) × (result.out.short ≤ run.count) × (result.out.bytes ≤ 42 * run.count) }
 {
-    let begin = run.start.0;
-    let swap = run.swap;
-    let count = run.count;
-    let left = crate::left_from(begin, long);
-    let end = packets::reach(swap, count);
+    let left = long.saturating_sub(run.start.0);
+    let end = packets::reach(run.swap, run.count);
     if end <= left {
-        return of_complete(swap, count, end, sourced);
+        return of_complete(run.swap, run.count, end, sourced);
     }
-    of_cut(swap, count, left, sourced)
+    of_cut(run.swap, run.count, left, sourced)
 }
 
 // For the rest of this crate. What a DSS recording hands out: a run for each block, which for a silent one has no packets. By itself its loop
@@ -114,22 +102,18 @@ pub fn of_dss(file: &[u8], recording: Recording) -> HandedOut
     requires { Sound file.now recording }
     ensures { result ≡ packets_out (reading_of file.now recording dss_runs) }
 {
-    let start = recording.start;
-    let blocks = recording.blocks;
-    let long = PAYLOAD * blocks;
+    let long = PAYLOAD * recording.blocks;
     let mut out = HandedOut {
         many: 0,
         short: 0,
         bytes: 0,
     };
     let mut sourced = false;
-    let mut block = 0;
-    while block < blocks {
-        let run = sp::dss_run(file, start, block);
+    for block in 0..recording.blocks {
+        let run = sp::dss_run(file, recording.start, block);
         let added = of_run(run, long, sourced);
         out = crate::together(out, added.out);
         sourced = added.sourced;
-        block += 1;
     }
     out
 }
@@ -140,21 +124,17 @@ pub fn of_ds2(file: &[u8], recording: Recording, announced: usize) -> HandedOut
     requires announced { announced ≡ announced_by file.now recording }
     ensures { result ≡ packets_out (reading_of file.now recording ds2_runs) }
 {
-    let start = recording.start;
-    let blocks = recording.blocks;
-    if blocks == 0 {
+    if recording.blocks == 0 {
         return HandedOut {
             many: 0,
             short: 0,
             bytes: 0,
         };
     }
-    let swap = blocks::swap_flag(file, start, 0);
     let run = Run {
         start: StreamPlace(0),
-        swap,
+        swap: blocks::swap_flag(file, recording.start, 0),
         count: announced,
     };
-    let added = of_run(run, PAYLOAD * blocks, false);
-    added.out
+    of_run(run, PAYLOAD * recording.blocks, false).out
 }

@@ -6,11 +6,13 @@ ghost use Rattle.blocks.specs.Headers.{first_of, count_of};
 ghost use Rattle.whole.specs.Admissions.{Sound};
 ghost use Rattle.frames.specs.Start.{frames_start};
 ghost use Rattle.tally.specs.declared.FileKind.TheVariants.{Ds2Qp7};
-ghost use Rattle.tally.specs.Tallies.{handed_by, counts_say};
+ghost use Rattle.refusals.specs.Said.{result_says};
+ghost use Rattle.tally.specs.Tallies.{handed_by};
 
-use crate::{Counts, HandedOut};
+use crate::HandedOut;
 use blocks::{FilePlace, StreamPlace};
-use qp7::{Totals, Walk, Walked};
+use qp7::{Totals, Walk};
+use refusals::Refusal;
 use whole::Recording;
 
 // How many bytes a block's records have, by the read place before the block and after it: they follow one another, from the read place or
@@ -29,16 +31,14 @@ fn bytes_read(
         return 0;
     }
     let begin = frames::block_start(file, a, block);
-    crate::left_from(tables::greater(before.0, begin.0), after.0)
+    after.0.saturating_sub(begin.0.max(before.0))
 }
 
 // For the rest of this crate. What a QP7 recording hands out, or why a record cannot be read. The walk is told to write no entries.
-pub fn of_qp7(file: &[u8], recording: Recording) -> Counts
+pub fn of_qp7(file: &[u8], recording: Recording) -> Result<HandedOut, Refusal>
     requires { Sound file.now recording }
-    ensures { counts_say result ≡ handed_by Ds2Qp7 file.now recording }
+    ensures { result_says result ≡ handed_by Ds2Qp7 file.now recording }
 {
-    let start = recording.start;
-    let blocks = recording.blocks;
     let none = Totals {
         records: 0,
         segments: 0,
@@ -52,10 +52,9 @@ pub fn of_qp7(file: &[u8], recording: Recording) -> Counts
         first: 0,
     };
     let mut bytes: u64 = 0;
-    let mut block = 0;
-    while block < blocks {
+    for block in 0..recording.blocks {
         let before = walk.place;
-        let came = qp7::with_block(
+        walk = qp7::with_block(
             file,
             recording,
             block,
@@ -63,15 +62,10 @@ pub fn of_qp7(file: &[u8], recording: Recording) -> Counts
             none,
             &mut records,
             &mut segments,
-        );
-        match came {
-            Walked::Refused(why) => return Counts::Untold(why),
-            Walked::At(next) => walk = next,
-        }
-        bytes += bytes_read(file, start, block, before, walk.place) as u64;
-        block += 1;
+        )?;
+        bytes += bytes_read(file, recording.start, block, before, walk.place) as u64;
     }
-    Counts::Are(HandedOut {
+    Ok(HandedOut {
         many: walk.records,
         short: 0,
         bytes,

@@ -4,13 +4,14 @@
 
 ghost use Rattle.std.specs.Prelude.{◌≡◌, ◌+◌, ◌-◌, ◌<◌, ◌^◌};
 ghost use Rattle.whole.specs.Admissions.{Sound, announced_by};
+ghost use Rattle.refusals.specs.Said.{result_says};
 ghost use Rattle.tally.specs.Inner.{together};
-ghost use Rattle.tally.specs.Tallies.{counts_say, handed_by, counted_as, ds2_kind, kind_in, tallied, tallied_says};
+ghost use Rattle.tally.specs.Tallies.{handed_by, counted_as, ds2_kind, kind_in, tallied};
 
 use blocks::FilePlace;
 use detect::Kind;
 use refusals::Refusal;
-use whole::{Admission, Recording};
+use whole::Recording;
 
 // SP packets, by runs.
 mod in_packets;
@@ -22,7 +23,7 @@ mod in_frames;
 mod in_records;
 
 // What a file is: its family and how it is read.
-#[derive(Clone, Copy)]
+#[derive(Clone, Copy, Debug, PartialEq, Eq)]
 pub enum FileKind {
     DssSp,
     Ds2Sp,
@@ -49,27 +50,6 @@ pub struct Figures {
     pub out: HandedOut,
 }
 
-// The tally, or why the whole reading refuses.
-#[derive(Clone, Copy)]
-pub enum Tallied {
-    Counted(Figures),
-    Refused(Refusal),
-}
-
-// What is handed out, or why it cannot be told.
-#[derive(Clone, Copy)]
-enum Counts {
-    Are(HandedOut),
-    Untold(Refusal),
-}
-
-// How many of so many bytes lie from a place on.
-fn left_from(begin: usize, long: usize) -> usize
-    ensures { result ≡ long - begin }
-{
-    if long < begin { 0 } else { long - begin }
-}
-
 // Two added up.
 fn together(one: HandedOut, other: HandedOut) -> HandedOut
     requires { (one.many + other.many < 2 ^ 64) × (one.short + other.short < 2 ^ 64) × (one.bytes + other.bytes < 2 ^ 64) }
@@ -83,38 +63,38 @@ fn together(one: HandedOut, other: HandedOut) -> HandedOut
 }
 
 // What a recording that announces so many frames hands out, read by its kind.
-fn handed_out(file: &[u8], recording: Recording, announced: usize, kind: FileKind) -> Counts
+fn handed_out(
+    file: &[u8],
+    recording: Recording,
+    announced: usize,
+    kind: FileKind,
+) -> Result<HandedOut, Refusal>
     requires sound { Sound file.now recording }
     requires announced { announced ≡ announced_by file.now recording }
-    ensures { counts_say result ≡ handed_by kind file.now recording }
+    ensures { result_says result ≡ handed_by kind file.now recording }
 {
     match kind {
-        FileKind::DssSp => Counts::Are(in_packets::of_dss(file, recording)),
-        FileKind::Ds2Sp => Counts::Are(in_packets::of_ds2(file, recording, announced)),
-        FileKind::Ds2Qp => Counts::Are(in_frames::of_qp(file, recording)),
+        FileKind::DssSp => Ok(in_packets::of_dss(file, recording)),
+        FileKind::Ds2Sp => Ok(in_packets::of_ds2(file, recording, announced)),
+        FileKind::Ds2Qp => Ok(in_frames::of_qp(file, recording)),
         FileKind::Ds2Qp7 => in_records::of_qp7(file, recording),
     }
 }
 
 // The tally of a recording of this kind.
-fn count(file: &[u8], recording: Recording, kind: FileKind) -> Tallied
+fn count(file: &[u8], recording: Recording, kind: FileKind) -> Result<Figures, Refusal>
     requires { Sound file.now recording }
-    ensures { tallied_says result ≡ counted_as kind file.now recording }
+    ensures { result_says result ≡ counted_as kind file.now recording }
 {
-    let start = recording.start;
-    let blocks = recording.blocks;
     let announced = recording.announced(file);
-    let counts = handed_out(file, recording, announced, kind);
-    match counts {
-        Counts::Untold(why) => Tallied::Refused(why),
-        Counts::Are(out) => Tallied::Counted(Figures {
-            kind,
-            start,
-            blocks,
-            announced,
-            out,
-        }),
-    }
+    let out = handed_out(file, recording, announced, kind)?;
+    Ok(Figures {
+        kind,
+        start: recording.start,
+        blocks: recording.blocks,
+        announced,
+        out,
+    })
 }
 
 // What a DS2 recording is that is read so.
@@ -140,16 +120,10 @@ fn kind_in(dss: bool, file: &[u8], recording: Recording) -> FileKind
 }
 
 // The tally of any file, or the refusal that its whole reading gives: 1, 2, 3, 4 or 5.
-pub fn tally(file: &[u8]) -> Tallied
-    ensures { tallied_says result ≡ tallied file.now }
+pub fn tally(file: &[u8]) -> Result<Figures, Refusal>
+    ensures { result_says result ≡ tallied file.now }
 {
     let dss = magic::names_dss(file);
-    let asked = whole::admit(file, dss, !dss);
-    match asked {
-        Admission::Refused(why) => Tallied::Refused(why),
-        Admission::Admitted(recording) => {
-            let kind = kind_in(dss, file, recording);
-            count(file, recording, kind)
-        }
-    }
+    let recording = whole::admit(file, dss, !dss)?;
+    count(file, recording, kind_in(dss, file, recording))
 }

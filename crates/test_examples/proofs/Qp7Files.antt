@@ -8,7 +8,7 @@ use native.Mathlib.Omega.{arith}
 use borrow.Author.Tests.{ne_eqb}
 use Rattle.blocks.specs.Places.{stream_at}
 use Rattle.blocks.specs.Headers.{first_of, count_of}
-use Rattle.refusals.specs.declared.Refusal.{Refusal}
+use Rattle.refusals.specs.declared.Numbers.{Numbers}
 use Rattle.refusals.specs.Numbers.{lacking}
 use Rattle.refusals.specs.Said.{refusal}
 use Rattle.detect.specs.declared.Kind.TheVariants.{Qp7}
@@ -25,7 +25,7 @@ module _ (s : ℕ → ℕ) (long n : ℕ) (g : Gathered) where
   reads_on : g.place + 56 ≤ long → record_size (s (g.place + 1)) ≡ 56 → reads s long (suc n) g ≡ reads s long n (noted 56 g)
   reads_on fits size = reads_more s long (suc n) n g refl ∙ rw (← record_there s long g.place 56 (omega arith) (sym size) fits)
 
-  reads_stop : (why : Refusal) → refusal why ≡ record_at s long g.place → reads s long (suc n) g ≡ refusal why
+  reads_stop : (why : Numbers) → refusal why ≡ record_at s long g.place → reads s long (suc n) g ≡ refusal why
   reads_stop why is = reads_more s long (suc n) n g refl ∙ rw (← is)
 
 -- after m long records that fit, the rest is read 56 m bytes on
@@ -52,7 +52,7 @@ after_long s long (suc m) n g each =
         (omega (arith, next.0), ap (λ (x : ℕ). record_size (s x)) (sym at) ∙ next.1)
 
 -- a file of one block whose records cannot be read is refused as they are
-refused_block : (f : List ℕ) (why : Refusal) → Ds2File Qp7 1 f
+refused_block : (f : List ℕ) (why : Numbers) → Ds2File Qp7 1 f
     → reads (stream_at f 1536 1) 506 (count_of f 1536 0) (raised (frames_start 0 (first_of f 1536 0)) nothing) ≡ refusal why
     → qp7_reading f ≡ refusal why
 unfolding qp7_reading gathered_from gathered_to with_block
@@ -61,7 +61,7 @@ refused_block f why file is =
     rw (taken_as Qp7 1 f (omega arith) (omega arith) file) (simp (ne_eqb (count_of f 1536 0) 0 some, is))
 
 -- 9 long records from a start on, and then a tenth that is refused
-tenth : (s : ℕ → ℕ) (start : ℕ) (why : Refusal) (g : Gathered) → g.place ≡ start → start ≤ 2
+tenth : (s : ℕ → ℕ) (start : ℕ) (why : Numbers) (g : Gathered) → g.place ≡ start → start ≤ 2
     → ((k : ℕ) → start + 56 * k + 2 ≤ 506 → record_size (s (start + 56 * k + 1)) ≡ 56) → refusal why ≡ record_at s 506 (start + 504)
     → reads s 506 10 g ≡ refusal why
 tenth s start why g at few each last =

@@ -12,7 +12,7 @@ use lib.Dec.{leb}
 use Rattle.tables.proofs.Cases.{by_order}
 use Rattle.tables.proofs.Tests.{told}
 use Rattle.blocks.specs.Places.{limit, whole_blocks}
-use Rattle.refusals.specs.declared.Refusal.{Refusal}
+use Rattle.refusals.specs.declared.Numbers.{Numbers}
 use Rattle.refusals.specs.Said.{Said, answers, refuses, demand, refusal}
 use Rattle.refusals.proofs.Said.{passed, not_both, went_on}
 use Rattle.detect.specs.declared.Kind.{Kind}
@@ -127,7 +127,7 @@ four_bytes f dss ds2 rec e =
 
 -- the ways of an admission to a DS2 reading of one kind
 module _ (f : List ℕ) (kind : Kind) where
-  pub ds2_refused : {why : Refusal} → refusal why ≡ admission f false true → refusal why ≡ ds2_admission f kind
+  pub ds2_refused : {why : Numbers} → refusal why ≡ admission f false true → refusal why ≡ ds2_admission f kind
   unfolding ds2_admission
   ds2_refused e = rw (← e)
 

@@ -8,7 +8,7 @@ use native.Mathlib.Omega.{arith}
 use borrow.Author.Tests.{lt-ltb, le-ltb, ltb-true}
 use lib.ListN.{take, drop, length}
 use lib.Dec.{ltb}
-use Rattle.refusals.specs.declared.Refusal.{Refusal}
+use Rattle.refusals.specs.declared.Numbers.{Numbers}
 use Rattle.refusals.proofs.Said.{went_on, passed}
 use Rattle.blocks.proofs.Stream.{payload_long}
 use Rattle.blocks.specs.Places.{Whole, file_of, payload_of}
@@ -20,7 +20,7 @@ use Rattle.whole.specs.Payload.{payload_place, payload_shown, place_in}
 
 -- the ways of a request
 module _ (f : List ℕ) (block : ℕ) where
-  pub place_refused : {why : Refusal} → refusal why ≡ admission f true true → refusal why ≡ payload_place f block
+  pub place_refused : {why : Numbers} → refusal why ≡ admission f true true → refusal why ≡ payload_place f block
   unfolding payload_place
   place_refused e = rw (← e)
 
@@ -43,7 +43,7 @@ module _ (f : List ℕ) (block : ℕ) where
         let place : rec.start.0 + 512 * block + 6 ≡ file_of rec.start.0 (506 * block) = omega arith in
         rw (← place_at h, place)
 
-  pub shown_none : {why : Refusal} → refusal why ≡ payload_place f block → take 0 (drop 0 f) ≡ payload_shown f block
+  pub shown_none : {why : Numbers} → refusal why ≡ payload_place f block → take 0 (drop 0 f) ≡ payload_shown f block
   unfolding payload_shown
   shown_none e = rw (← e)
 

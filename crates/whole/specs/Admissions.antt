@@ -2,12 +2,10 @@
 -- the numbers beside them, or the recording. Assumes nothing.
 use Rattle.std.specs.Prelude.{ℕ, ◌*◌, ◌≤◌, ◌≡◌, List, Bool, true, false, get_or, length, leb}
 use Rattle.blocks.specs.Places.{limit, whole_blocks, Whole, stream_at}
-use Rattle.refusals.specs.Said.{Said, answers, refuses, refusal, demand, onward}
+use Rattle.refusals.specs.Said.{Said, answers, refuses, demand, onward}
 use Rattle.magic.specs.declared.Magic.{Magic}
 use Rattle.magic.specs.declared.Magic.TheVariants.{Dss, Ds2, Grundig, Other}
 use Rattle.whole.specs.declared.Recording.{Recording}
-use Rattle.whole.specs.declared.Admission.{Admission}
-use Rattle.whole.specs.declared.Admission.TheVariants.{Admitted, Refused}
 use Rattle.blocks.specs.Headers.{announced_in}
 use Rattle.detect.specs.Start.{audio_start}
 use Rattle.detect.specs.Kinds.{format_type, read_as}
@@ -33,11 +31,6 @@ admission_by Other f dss ds2 = refuses 1 0
 -- of any file: refusals 1, 2 and 3 in that order, or the recording
 unfoldable pub admission : List ℕ → Bool → Bool → Said Recording
 admission f dss ds2 = admission_by (magic_of f) f dss ds2
-
--- the code's answer, read so
-abbrev pub admission_says : Admission → Said Recording
-admission_says (Admitted rec) = answers rec
-admission_says (Refused why) = refusal why
 
 -- what a whole reading asks of a recording then: the type of a DS2 recording, and how many frames it announces
 abbrev pub type_in : List ℕ → Recording → ℕ

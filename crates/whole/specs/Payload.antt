@@ -1,12 +1,13 @@
 -- A block's payload on request: refusals 1, 2, 3 and 12, or those 506 bytes of the file.
 -- Assumes nothing.
-use Rattle.std.specs.Prelude.{ℕ, ◌*◌, List, [], true, take, drop, ltb}
+use Rattle.std.specs.Prelude.{ℕ, ◌*◌, List, [], true, take, drop, ltb, Result, Ok, Err}
+use Rattle.blocks.specs.declared.FilePlace.{FilePlace}
 use Rattle.blocks.specs.Places.{file_of}
+use Rattle.refusals.specs.Numbers.{numbers_of}
 use Rattle.refusals.specs.Said.{Said, answers, refusal, demand, onward}
 use Rattle.whole.specs.declared.Recording.{Recording}
-use Rattle.whole.specs.declared.PayloadAnswer.{PayloadAnswer}
-use Rattle.whole.specs.declared.PayloadAnswer.TheVariants.{At, Refused}
 use Rattle.whole.specs.Admissions.{admission}
+use Rattle.refusals.specs.declared.Refusal.{Refusal}
 
 -- the file place of the payload of a whole block of either magic, any type
 abbrev pub place_in : Recording → ℕ → Said ℕ
@@ -17,9 +18,9 @@ unfoldable pub payload_place : List ℕ → ℕ → Said ℕ
 payload_place f block = onward (admission f true true) (λ rec. place_in rec block)
 
 -- the code's answer, read so
-abbrev pub payload_says : PayloadAnswer → Said ℕ
-payload_says (At place) = answers place.0
-payload_says (Refused why) = refusal why
+abbrev pub payload_says : Result FilePlace Refusal → Said ℕ
+payload_says (Ok place) = answers place.0
+payload_says (Err why) = refusal (numbers_of why)
 
 -- the 506 bytes from that place on; a refused call shows an empty part
 abbrev pub shown_at : List ℕ → Said ℕ → List ℕ

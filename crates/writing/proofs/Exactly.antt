@@ -10,17 +10,18 @@ use lib.ListN.{length}
 use lib.Dec.{leb, eqb}
 use Rattle.tables.proofs.Cases.{by_order, by_equal, by_test, never}
 use Rattle.blocks.specs.Places.{limit}
-use Rattle.refusals.specs.Said.{answers, refuses}
+use Rattle.refusals.specs.Said.{answers, refuses, result_says}
 use Rattle.refusals.proofs.Said.{not_both, by_demand}
 use Rattle.laying.specs.Header.{is_header}
 use Rattle.laying.proofs.Admitted.{header_is, header_if}
-use Rattle.writing.specs.declared.Written.{Written}
 use Rattle.writing.specs.Laying.{many_in}
-use Rattle.writing.specs.Outcome.{sound_in, size_of, written_size, written_says, Writes}
+use Rattle.writing.specs.Outcome.{sound_in, size_of, written_size, Writes}
 use Rattle.writing.specs.Writable.{AllSound, FirstUnsound, file_size, Writable, Unwritable}
 use Rattle.writing.specs.Writable.Unwritable.{no_header, bad_packet, too_long, no_room}
 use Rattle.writing.proofs.Outcome.{sound_upto, sound_each, sound_most, sound_not}
 use Rattle.writing.proofs.Theorems.{accepted}
+use Rattle.std.specs.Prelude.{Result, Ok, Err}
+use Rattle.refusals.specs.declared.Refusal.{Refusal}
 
 -- all packets are sound exactly if those that a list begins with are all of it, and the first that is not follows them
 module _ (packets : List ℕ) where
@@ -81,10 +82,10 @@ module _ (header packets : List ℕ) (room : ℕ) where
       (λ some n b. rw (← n, ← b) (bad_packet (header_is header good) (first_unsound packets (eqb-false (42 * sound_in packets) (length packets) some)))))
       (λ bad n b. rw (← n, ← b) (no_header (λ h. never (header_if header h) bad)))
 
-module _ (header packets out out' : List ℕ) (answer : Written) (w : Writes header packets out out' answer) where
+module _ (header packets out out' : List ℕ) (answer : Result ℕ Refusal) (w : Writes header packets out out' answer) where
   -- A call is answered exactly if what it is given may be written, and then with the file's length.
-  pub answered_exactly : (Writable header packets (length out) → written_says answer ≡ answers (file_size packets))
-      × ((size : ℕ) → written_says answer ≡ answers size → Writable header packets (length out))
+  pub answered_exactly : (Writable header packets (length out) → result_says answer ≡ answers (file_size packets))
+      × ((size : ℕ) → result_says answer ≡ answers size → Writable header packets (length out))
   answered_exactly = (
     λ may. w.answer_is ∙ may_say header packets (length out) may,
     λ size e.
@@ -93,8 +94,8 @@ module _ (header packets out out' : List ℕ) (answer : Written) (w : Writes hea
   )
 
   -- It is refused by a number, with another beside it, exactly if it may not be written for the cause that these two stand for.
-  pub refused_exactly : (number beside : ℕ) → (Unwritable header packets (length out) number beside → written_says answer ≡ refuses number beside)
-      × (written_says answer ≡ refuses number beside → Unwritable header packets (length out) number beside)
+  pub refused_exactly : (number beside : ℕ) → (Unwritable header packets (length out) number beside → result_says answer ≡ refuses number beside)
+      × (result_says answer ≡ refuses number beside → Unwritable header packets (length out) number beside)
   refused_exactly number beside = (
     λ may-not. w.answer_is ∙ may_not_say header packets (length out) number beside may-not,
     λ e. why_not header packets (length out) number beside (sym w.answer_is ∙ e),

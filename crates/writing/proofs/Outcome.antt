@@ -13,16 +13,16 @@ use Rattle.tables.proofs.Cases.{by_equal, never}
 use Rattle.tables.proofs.Leading.{Leads, leading_leads, leads_only}
 use Rattle.blocks.specs.Places.{limit}
 use Rattle.refusals.specs.Numbers.{numbered}
-use Rattle.refusals.specs.Said.{Said, answers, refuses}
+use Rattle.refusals.specs.Said.{Said, answers, refuses, result_says}
 use Rattle.packets.specs.Walk.{reach}
 use Rattle.laying.specs.Header.{is_header}
 use Rattle.laying.specs.Inner.{Holds}
 use Rattle.laying.proofs.Admitted.{header_is}
-use Rattle.writing.specs.declared.Written.{Written}
-use Rattle.writing.specs.declared.Written.TheVariants.{Bytes, Refused}
 use Rattle.writing.specs.Laying.{many_in, byte_in, sp_laid}
-use Rattle.writing.specs.Outcome.{sound_in, size_of, written_size, out_after, written_says, Writes}
+use Rattle.writing.specs.Outcome.{sound_in, size_of, written_size, out_after, Writes}
 use Rattle.writing.specs.Inner.{Ready}
+use Rattle.std.specs.Prelude.{Result, Ok, Err}
+use Rattle.refusals.specs.declared.Refusal.{Refusal}
 
 -- where packets are first not sound
 sound_leads : (packets : List ℕ) → Leads (λ k. eqb (byte_in packets k 40) 0) (many_in packets) (sound_in packets)
@@ -56,12 +56,12 @@ sound_not packets h zero = never (eq-eqb (byte_in packets (sound_in packets) 40)
 
 module _ (header packets out : List ℕ) where
   -- an outcome that is said so
-  as_said : {said : Said ℕ} {out' : List ℕ} {answer : Written} → written_says answer ≡ said → said ≡ written_size header packets (length out)
+  as_said : {said : Said ℕ} {out' : List ℕ} {answer : Result ℕ Refusal} → result_says answer ≡ said → said ≡ written_size header packets (length out)
       → out' ≡ out_after said header packets out → Writes header packets out out' answer
   as_said is said after =
       record { answer_is = is ∙ said; out_is = after ∙ ap (λ (s : Said ℕ). out_after s header packets out) said }
 
-  pub refused_15 : is_header header ≡ false → Writes header packets out out (Refused (numbered 15 0))
+  pub refused_15 : is_header header ≡ false → Writes header packets out out (Err (numbered 15 0))
   unfolding written_size
   refused_15 h = as_said refl said refl
     where
@@ -69,7 +69,7 @@ module _ (header packets out : List ℕ) where
       said = simp h
 
   module _ (good : is_header header ≡ true) (many : ℕ) (is : many ≡ sound_in packets) where
-    pub refused_16 : (42 * many ≡ length packets → ⊥) → Writes header packets out out (Refused (numbered 16 many))
+    pub refused_16 : (42 * many ≡ length packets → ⊥) → Writes header packets out out (Err (numbered 16 many))
     unfolding written_size
     refused_16 other = as_said refl said refl
       where
@@ -84,7 +84,7 @@ module _ (header packets out : List ℕ) where
       size_is : 1536 + 512 * ((reach false many + 505) / 506) ≡ size_of packets
       size_is = ap (λ (n : ℕ). 1536 + 512 * ((reach false n + 505) / 506)) many_is
 
-      pub refused_17 : 6470444 < many → Writes header packets out out (Refused (numbered 17 limit))
+      pub refused_17 : 6470444 < many → Writes header packets out out (Err (numbered 17 limit))
       unfolding written_size
       refused_17 over = as_said refl said refl
         where
@@ -92,7 +92,7 @@ module _ (header packets out : List ℕ) where
           said = rw (← is) (simp (good, eq-eqb (42 * many) (length packets) all, lt-leb (size_of packets) limit (omega (arith, size_is))))
 
       module _ (few : many ≤ 6470444) (size : ℕ) (so : size ≡ 1536 + 512 * ((reach false many + 505) / 506)) where
-        pub refused_8 : length out < size → Writes header packets out out (Refused (numbered 8 size))
+        pub refused_8 : length out < size → Writes header packets out out (Err (numbered 8 size))
         unfolding written_size
         refused_8 less = as_said refl said refl
           where
@@ -111,7 +111,7 @@ module _ (header packets out : List ℕ) where
                 room = omega (arith, so);
               }
 
-          pub written : (out' : List ℕ) → Holds out header (sp_laid many (byte_in packets)) out' → Writes header packets out out' (Bytes size)
+          pub written : (out' : List ℕ) → Holds out header (sp_laid many (byte_in packets)) out' → Writes header packets out out' (Ok size)
           unfolding written_size
           written out' holds = as_said refl said (leaves_over
               (leaves_to (sym (so ∙ size_is)) (subst (λ (n : ℕ). Holds out header (sp_laid n (byte_in packets)) out') many_is holds)))

@@ -18,24 +18,21 @@ use Rattle.blocks.specs.Places.{limit, whole_blocks}
 use Rattle.magic.specs.declared.Magic.TheVariants.{Ds2}
 use Rattle.magic.specs.Magics.{magic_of}
 use Rattle.detect.specs.Kinds.{format_type}
-use Rattle.refusals.specs.declared.Refusal.{Refusal}
-use Rattle.refusals.specs.Said.{Said, answers, refusal}
+use Rattle.refusals.specs.declared.Numbers.{Numbers}
+use Rattle.refusals.specs.Said.{Said, answers, refusal, result_says}
 use Rattle.refusals.proofs.Said.{for_the_answer, passed, only_one, read_from}
 use Rattle.packets.specs.Packet.{read_size}
 use Rattle.packets.specs.Walk.{parity}
-use Rattle.sp.specs.declared.Demuxed.{Demuxed}
 use Rattle.sp.specs.Readings.{Reading, total, packet_at, joined_byte_at, ds2_reading}
-use Rattle.sp.specs.Outcome.{room_in, in_room, answered, demuxed_says, Demuxes}
+use Rattle.sp.specs.Outcome.{room_in, in_room, answered, Demuxes}
 use Rattle.sp.specs.Written as Packets
 use Rattle.sp.proofs.Theorems.{accepted_writes, room_decides}
 use Rattle.laying.specs.Header.{is_header}
 use Rattle.laying.specs.Laid.{file_byte, laid_file}
 use Rattle.laying.proofs.Files.{file_long, header_at}
 use Rattle.laying.proofs.Admitted.{header_is, magic_is}
-use Rattle.writing.specs.declared.Written.{Written}
-use Rattle.writing.specs.declared.Written.TheVariants.{Bytes, Refused}
 use Rattle.writing.specs.Laying.{many_in, byte_in, list_laid}
-use Rattle.writing.specs.Outcome.{sound_in, size_of, written_size, out_after, written_says, Writes}
+use Rattle.writing.specs.Outcome.{sound_in, size_of, written_size, out_after, Writes}
 use Rattle.writing.specs.Writable.{file_size}
 use Rattle.writing.specs.ReadBack.{ReadsBack}
 use Rattle.writing.specs.Described.{Described}
@@ -44,6 +41,8 @@ use Rattle.writing.proofs.Described.{laid_described}
 use Rattle.writing.proofs.ReadBack.{reading_back, total_back, byte_back, swap_back, full_back, type_is, is_read_back}
 use Rattle.writing.proofs.write_ds2_sp.Kinds as writes
 use Rattle.writing.proofs.write_ds2_sp.Reads as writes_reads
+use Rattle.std.specs.Prelude.{Result, Ok, Err}
+use Rattle.refusals.specs.declared.Refusal.{Refusal}
 
 -- what an answer rests on: the header, sound packets and no other bytes, the limit, and the room
 pub record Accepted (header packets : List ℕ) (room size : ℕ) : Type 0 where
@@ -74,13 +73,13 @@ pub longest_list : (packets : List ℕ) → (length packets ≤ 42 * 6470444 →
     × (length packets ≡ 42 * 6470444 → file_size packets ≡ limit) × (42 * 6470445 ≤ length packets → limit < file_size packets)
 longest_list packets = (λ few. omega arith, λ most. omega arith, λ over. omega arith)
 
-module _ (header packets out out' : List ℕ) (answer : Written) (w : Writes header packets out out' answer) where
+module _ (header packets out out' : List ℕ) (answer : Result ℕ Refusal) (w : Writes header packets out out' answer) where
   -- A refused call changes nothing.
-  pub refused_changes_nothing : (why : Refusal) → written_says answer ≡ refusal why → out' ≡ out
+  pub refused_changes_nothing : (why : Numbers) → result_says answer ≡ refusal why → out' ≡ out
   refused_changes_nothing why e =
       w.out_is ∙ ap (λ (said : Said ℕ). out_after said header packets out) (sym w.answer_is ∙ e)
 
-  module _ (size : ℕ) (e : written_says answer ≡ answers size) where
+  module _ (size : ℕ) (e : result_says answer ≡ answers size) where
     said : Accepted header packets (length out) size
     said = accepted header packets (length out) size (sym w.answer_is ∙ e)
 
@@ -185,9 +184,9 @@ module _ (header packets out out' : List ℕ) (answer : Written) (w : Writes hea
 
     -- So the call that reads it whole, with room for the packets, answers with their number, puts the list over the front of its output, and
     -- their full counts into its table.
-    pub written_demuxes : {o o' counts counts' : List ℕ} {read : Demuxed} → Demuxes (ds2_reading (take size out')) o o' counts counts' read
+    pub written_demuxes : {o o' counts counts' : List ℕ} {read : Result ℕ Refusal} → Demuxes (ds2_reading (take size out')) o o' counts counts' read
         → n ≤ room_in o counts
-        → (demuxed_says read ≡ answers n) × (take (length packets) o' ≡ packets) × ((k : ℕ) → k < n → get_or counts' k 0 ≡ read_size (parity false k))
+        → (result_says read ≡ answers n) × (take (length packets) o' ≡ packets) × ((k : ℕ) → k < n → get_or counts' k 0 ≡ read_size (parity false k))
     written_demuxes {o} {o'} {counts} {counts'} {read} d room = (
       answered_all,
       front,
@@ -200,7 +199,7 @@ module _ (header packets out out' : List ℕ) (answer : Written) (w : Writes hea
         back : ReadsBack packets (take size out') written_reads_back.0
         back = written_reads_back.1
 
-        answered_all : demuxed_says read ≡ answers n
+        answered_all : result_says read ≡ answers n
         answered_all =
             d.answer_is
             ∙ ap (λ (x : Said Reading). answered (in_room x (room_in o counts))) back.is_read
@@ -221,26 +220,26 @@ module _ (header packets out out' : List ℕ) (answer : Written) (w : Writes hea
             ∙ back.joined
 
 -- two answers that say the same are the same
-written_back : (x : Written) → read_from Bytes Refused (written_says x) ≡ x
-written_back (Bytes size) = refl
-written_back (Refused why) = refl
+written_back : (x : Result ℕ Refusal) → read_from Ok Err (result_says x) ≡ x
+written_back (Ok size) = refl
+written_back (Err why) = refl
 
-pub only_outcome : {header packets out out₁ out₂ : List ℕ} {one other : Written} → Writes header packets out out₁ one
-    → Writes header packets out out₂ other → ◌≡◌ {A = Written × List ℕ} (one, out₁) (other, out₂)
+pub only_outcome : {header packets out out₁ out₂ : List ℕ} {one other : Result ℕ Refusal} → Writes header packets out out₁ one
+    → Writes header packets out out₂ other → ◌≡◌ {A = Result ℕ Refusal × List ℕ} (one, out₁) (other, out₂)
 only_outcome {one = one} {other = other} p q =
-    let answer : one ≡ other = only_one written_says (read_from Bytes Refused) written_back one other _ p.answer_is q.answer_is in
+    let answer : one ≡ other = only_one result_says (read_from Ok Err) written_back one other _ p.answer_is q.answer_is in
     let lent = p.out_is ∙ sym q.out_is in
     (λ i. (answer i, lent i))
 
 -- The contract settles answer and output: of two outcomes that it allows for the same header, packets and output, both are the same. So
 -- what is written is determined by header and packets.
-pub write_ds2_sp_settled : SettledAs 3 writes.ps writes.r (λ κs. Written × List ℕ) (λ κs x s. (x, s.1.1.0.now)) writes_reads.Post
+pub write_ds2_sp_settled : SettledAs 3 writes.ps writes.r (λ κs. Result ℕ Refusal × List ℕ) (λ κs x s. (x, s.1.1.0.now)) writes_reads.Post
 write_ds2_sp_settled κs a x y s t p q = only_outcome p q
 
 -- And header and packets are determined by what is written: of two answered calls that write the same file, both are the same.
-pub same_file_same_packets : (header header₁ packets packets₁ out out₁ out' out₁' : List ℕ) (answer answer₁ : Written) (size size₁ : ℕ)
-    → Writes header packets out out' answer → Writes header₁ packets₁ out₁ out₁' answer₁ → written_says answer ≡ answers size
-    → written_says answer₁ ≡ answers size₁ → take size out' ≡ take size₁ out₁' → (header ≡ header₁) × (packets ≡ packets₁)
+pub same_file_same_packets : (header header₁ packets packets₁ out out₁ out' out₁' : List ℕ) (answer answer₁ : Result ℕ Refusal) (size size₁ : ℕ)
+    → Writes header packets out out' answer → Writes header₁ packets₁ out₁ out₁' answer₁ → result_says answer ≡ answers size
+    → result_says answer₁ ≡ answers size₁ → take size out' ≡ take size₁ out₁' → (header ≡ header₁) × (packets ≡ packets₁)
 same_file_same_packets header header₁ packets packets₁ out out₁ out' out₁' answer answer₁ size size₁ w w₁ e e₁ same =
     (headers, lists)
   where

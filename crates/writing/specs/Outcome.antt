@@ -1,16 +1,15 @@
 -- What the writer of DS2 SP files answers and leaves in the lent output: refusals 15, 16, 17 and 8 with the numbers beside them, or how long
 -- the file is. A refused call leaves the output as it was; an answered one writes the file over its front, and no other byte.
 -- Assumes nothing.
-use Rattle.std.specs.Prelude.{ℕ, ◌*◌, ◌≡◌, List, length, leb, eqb}
+use Rattle.std.specs.Prelude.{ℕ, ◌*◌, ◌≡◌, List, length, leb, eqb, Result, Ok, Err}
 use Rattle.tables.specs.Lent.{over}
 use Rattle.tables.specs.Leading.{leading}
 use Rattle.blocks.specs.Places.{limit}
-use Rattle.refusals.specs.Said.{Said, answers, refusal, demand}
+use Rattle.refusals.specs.Said.{Said, answers, refusal, demand, result_says}
 use Rattle.laying.specs.Header.{is_header}
 use Rattle.laying.specs.Laid.{size_for, file_byte}
-use Rattle.writing.specs.declared.Written.{Written}
-use Rattle.writing.specs.declared.Written.TheVariants.{Bytes, Refused}
 use Rattle.writing.specs.Laying.{many_in, byte_in, list_laid}
+use Rattle.refusals.specs.declared.Refusal.{Refusal}
 
 -- how many packets the list begins with that are all there and have byte 40 at 0: the number of the first that is not so
 unfoldable pub sound_in : List ℕ → ℕ
@@ -34,12 +33,7 @@ abbrev pub out_after : Said ℕ → List ℕ → List ℕ → List ℕ → List 
 out_after (answers size) header packets out = over size (file_byte header (list_laid packets)) out
 out_after (refusal why) header packets out = out
 
--- the code's answer, read so
-abbrev pub written_says : Written → Said ℕ
-written_says (Bytes size) = answers size
-written_says (Refused why) = refusal why
-
 -- the call's outcome is the definition's: answer and output
-pub record Writes (header packets out out' : List ℕ) (answer : Written) : Type 0 where
-  pub answer_is : written_says answer ≡ written_size header packets (length out)
+pub record Writes (header packets out out' : List ℕ) (answer : Result ℕ Refusal) : Type 0 where
+  pub answer_is : result_says answer ≡ written_size header packets (length out)
   pub out_is : out' ≡ out_after (written_size header packets (length out)) header packets out

@@ -17,24 +17,15 @@ use refusals::Refusal;
 // The most packets: their file has exactly as many bytes as the limit.
 const MOST: usize = 6_470_444;
 
-// How long the file is, or why the call refuses.
-#[derive(Clone, Copy)]
-pub enum Written {
-    Bytes(usize),
-    Refused(Refusal),
-}
-
 // How many packets the list begins with that are all there and have 0 at byte 40.
 fn sound_in(packets: &[u8]) -> usize
     ensures { (result ≡ sound_in packets.now) × (result ≤ many_in packets.now) }
 {
     let many = packets.len() / PACKET;
-    let mut k = 0;
-    while k < many {
+    for k in 0..many {
         if packets[PACKET * k + 40] != 0 {
             return k;
         }
-        k += 1;
     }
     many
 }
@@ -53,11 +44,7 @@ fn one_on(packets: &[u8], from: usize) -> [u8; 52]
     ensures { OneOn (λ i. get_or packets.now (from + i) 0) result }
 {
     let mut packet = [0u8; 52];
-    let mut k = 0;
-    while k < 42 {
-        packet[1 + k] = packets[from + k];
-        k += 1;
-    }
+    tables::copy(&mut packet, 1, packets, from, PACKET);
     packet
 }
 
@@ -66,8 +53,7 @@ fn swapped_read(packets: &[u8], from: usize) -> [u8; 48]
     requires { from + 42 ≤ length packets.now }
     ensures { SwappedRead (λ i. get_or packets.now (from + i) 0) result }
 {
-    let packet = one_on(packets, from);
-    packets::blend(packet)
+    packets::blend(one_on(packets, from))
 }
 
 // For the crates above too. Puts the packet at this place of the list under a number, behind all that have a lower one, and counts it. Where it
@@ -99,31 +85,29 @@ fn lay(header: &[u8], packets: &[u8], many: usize, out: &mut [u8])
 {
     let blocks = blocks_for(many);
     laying::begin(header, 0, blocks, out);
-    let mut k = 0;
-    while k < many {
+    for k in 0..many {
         put_packet(out, k, packets, PACKET * k);
-        k += 1;
     }
 }
 
 // The DS2 SP file of a header and joined packets, over the front of the output, or a refusal that changes nothing.
-pub fn write_ds2_sp(header: &[u8], packets: &[u8], out: &mut [u8]) -> Written
+pub fn write_ds2_sp(header: &[u8], packets: &[u8], out: &mut [u8]) -> Result<usize, Refusal>
     ensures { Writes header.now packets.now out.old out.new result }
 {
     if !laying::is_header(header) {
-        return Written::Refused(Refusal::supplied());
+        return Err(Refusal::Supplied);
     }
     let many = sound_in(packets);
     if PACKET * many != packets.len() {
-        return Written::Refused(Refusal::packet(many));
+        return Err(Refusal::Packet(many));
     }
     if MOST < many {
-        return Written::Refused(Refusal::too_long(LIMIT));
+        return Err(Refusal::TooLong(LIMIT));
     }
     let size = laying::HEADER + BLOCK * blocks_for(many);
     if out.len() < size {
-        return Written::Refused(Refusal::room(size));
+        return Err(Refusal::Room(size));
     }
     lay(header, packets, many, out);
-    Written::Bytes(size)
+    Ok(size)
 }

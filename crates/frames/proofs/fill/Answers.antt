@@ -2,22 +2,21 @@
 -- Assumes nothing.
 use mathlib.Core.Path.{ap}
 use Rattle.tables.proofs.Tests.{told}
-use Rattle.whole.specs.Admissions.{admission_says}
 use Rattle.frames.proofs.Fetch.{fetched_from, fill_refused, fill_is}
-use Rattle.whole.specs.Admissions.{admission_says}
 use Rattle.frames.proofs.fill.Goals as goal
+use Rattle.refusals.specs.Said.{result_says}
 
 pub fill_from-requires : goal.fill_from-requires
 fill_from-requires c =
     let a = c.args in
-    (fetched_from a.file.now a.place.0 a.size _ _ (told c.fetch_from-asked.ensures (ap admission_says c.in-Admitted.is))).1
+    (fetched_from a.file.now a.place.0 a.size _ _ (told c.fetch_from-asked.ensures (ap result_says c.in-Admitted.is))).1
 
 pub returns-in-Refused : goal.returns-in-Refused
 returns-in-Refused c =
     let a = c.args in
-    fill_refused a.file.now a.place.0 a.size a.scratch.now _ (told (ap admission_says c.in-Refused.is) c.fetch_from-asked.ensures)
+    fill_refused a.file.now a.place.0 a.size a.scratch.now _ (told (ap result_says c.in-Refused.is) c.fetch_from-asked.ensures)
 
 pub returns-in-Admitted : goal.returns-in-Admitted
 returns-in-Admitted c =
     let a = c.args in
-    fill_is a.file.now a.place.0 a.size a.scratch.now _ (told (ap admission_says c.in-Admitted.is) c.fetch_from-asked.ensures) _ _ c.fill_from.ensures.stand c.fill_from.ensures.bytes
+    fill_is a.file.now a.place.0 a.size a.scratch.now _ (told (ap result_says c.in-Admitted.is) c.fetch_from-asked.ensures) _ _ c.fill_from.ensures.stand c.fill_from.ensures.bytes

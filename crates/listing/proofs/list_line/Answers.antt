@@ -1,9 +1,8 @@
 -- `listing::list_line` meets its contract: too long a file is refused, and any other has the line of what its tally says.
 -- Assumes nothing.
 use Rattle.std.proofs.Common.{sym, ap, ◌∙◌}
-use Rattle.refusals.specs.declared.Refusal.{Refusal}
-use Rattle.refusals.specs.Said.{refusal}
-use Rattle.tally.specs.Tallies.{tallied_says}
+use Rattle.refusals.specs.declared.Numbers.{Numbers}
+use Rattle.refusals.specs.Said.{refusal, result_says}
 use Rattle.listing.proofs.Text.{too_long, short_enough, listed_as}
 use Rattle.io.specs.Counts.{IsPrefixLen}
 use Rattle.listing.specs.Line.{list_line, Lists}
@@ -14,21 +13,21 @@ long_said : (c : goal.After-put_refusal)
     → Lists (list_line c.args.file.now) c.args.line.now c.put_refusal.new.line c.put_refusal.result × IsPrefixLen c.put_refusal.result c.put_refusal.new.line
 long_said c =
     let f = c.args.file.now in
-    listed_as f (too_long f c.if-file-gt-MOST.true ∙ ap (λ (why : Refusal). refusal why) (sym c.limit.ensures)) c.told-line c.put_refusal.ensures
+    listed_as f (too_long f c.if-file-gt-MOST.true ∙ ap (λ (why : Numbers). refusal why) (sym c.limit.ensures)) c.told-line c.put_refusal.ensures
 
 refused_said : (c : goal.After-put_refusal-in-Refused)
     → Lists (list_line c.args.file.now) c.args.line.now c.put_refusal-in-Refused.new.line c.put_refusal-in-Refused.result
     × IsPrefixLen c.put_refusal-in-Refused.result c.put_refusal-in-Refused.new.line
 refused_said c =
     let f = c.args.file.now in
-    listed_as f (short_enough f c.if-file-gt-MOST.false ∙ sym c.tally-answer.ensures ∙ ap tallied_says c.in-Refused.is) c.told-line
+    listed_as f (short_enough f c.if-file-gt-MOST.false ∙ sym c.tally-answer.ensures ∙ ap result_says c.in-Refused.is) c.told-line
     c.put_refusal-in-Refused.ensures
 
 counted_said : (c : goal.After-put_figures)
     → Lists (list_line c.args.file.now) c.args.line.now c.put_figures.new.line c.put_figures.result × IsPrefixLen c.put_figures.result c.put_figures.new.line
 counted_said c =
     let f = c.args.file.now in
-    listed_as f (short_enough f c.if-file-gt-MOST.false ∙ sym c.tally-answer.ensures ∙ ap tallied_says c.in-Counted.is) c.told-line c.put_figures.ensures
+    listed_as f (short_enough f c.if-file-gt-MOST.false ∙ sym c.tally-answer.ensures ∙ ap result_says c.in-Counted.is) c.told-line c.put_figures.ensures
 
 pub returns-then-file-gt-MOST-clause-line : goal.returns-then-file-gt-MOST-clause-line
 returns-then-file-gt-MOST-clause-line c = (long_said c).0

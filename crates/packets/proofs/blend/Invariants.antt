@@ -10,7 +10,5 @@ use Rattle.packets.proofs.blend.Given as goal
 
 abbrev pub invariant-loop-k : goal.invariant-loop-k
 invariant-loop-k l =
-    (l.k ≤ 48) × ((length l.initial.blend ≡ 48) × Leaves l.initial.blend 0 l.k (λ j. cond (eqb (j % 2) 0) (get_or l.read (j + 4) 0) (get_or l.read j 0)) l.blend)
+    ((length l.initial.blend ≡ 48) × Leaves l.initial.blend 0 l.k (λ j. cond (eqb (j % 2) 0) (get_or l.read (j + 4) 0) (get_or l.read j 0)) l.blend)
 
-abbrev pub decreases-loop-k : goal.decreases-loop-k
-decreases-loop-k l = 48 - l.k

@@ -13,9 +13,9 @@ returns-then-at-le-LAST_INSIDE c =
     let a = c.args in
     gathered (stream_at a.file.now a.a.0 a.blocks) _ a.swap a.carry a.q.0 a.file.now c.in_file-here.result.0 _
     (in_block a.file.now a.a.0 a.blocks a.q.0 _ a.swap (search rules) (search rules) c.in_file-here.ensures)
-    c.packet_bytes-bytes.ensures
-    (c.read_size-size.ensures.0 ∙ full_count a.blocks a.q.0 a.swap (search rules) (search rules))
-    c.carry_after-after.ensures
+    c.packet_bytes.ensures
+    (c.read_size-then-at-le-LAST_INSIDE.ensures.0 ∙ full_count a.blocks a.q.0 a.swap (search rules) (search rules))
+    c.carry_after.ensures
     (search rules)
 
 pub returns : goal.returns
@@ -23,7 +23,7 @@ returns c =
     let a = c.args in
     gathered (stream_at a.file.now a.a.0 a.blocks) _ a.swap a.carry a.q.0 c.seam-window.result 0 _
     (in_window _ a.q.0 _ a.swap c.seam-window.ensures)
-    c.packet_bytes-bytes-2.ensures
-    c.file_count-count.ensures
-    c.carry_after-after-2.ensures
+    c.packet_bytes-2.ensures
+    c.file_count.ensures
+    c.carry_after-2.ensures
     (search rules)

@@ -14,7 +14,6 @@ use Rattle.sp.proofs.read.Goals as goal
 pub returns-then-not-has_room : goal.returns-then-not-has_room
 returns-then-not-has_room c =
     let a = c.args in
-    rw c.room.ensures
     (no_room (reading_of a.file.now a.recording (cond a.dss dss_runs ds2_runs)) _ _ _ (c.announced-needed.ensures.0 ∙ sym (packets_announced a.dss _ _ _)) (sym c.has_room.ensures ∙ c.if-not-has_room.true))
 
 pub returns : goal.returns

@@ -10,11 +10,11 @@ pub returns-then-needed-eq0 : goal.returns-then-needed-eq0
 returns-then-needed-eq0 c =
     written_nothing _ _ _ (ds2_packets _ _ _ ∙ sym c.requires.1 ∙ c.if-needed-eq0.true)
 
-pub swap_flag-swap-requires : goal.swap_flag-swap-requires
-swap_flag-swap-requires c =
+pub swap_flag-requires : goal.swap_flag-requires
+swap_flag-requires c =
     let some = some_block _ _ _ (λ none. c.if-needed-eq0.false (c.requires.1 ∙ none)) in
     omega (arith, some, c.requires.0.readable.whole)
 
 pub returns : goal.returns
 returns c =
-    written_one _ _ _ _ _ _ _ _ _ _ (cc (c.swap_flag-swap.ensures, c.requires.1)) c.write_run.ensures
+    written_one _ _ _ _ _ _ _ _ _ _ (cc (c.swap_flag.ensures, c.requires.1)) c.write_run.ensures

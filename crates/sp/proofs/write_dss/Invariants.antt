@@ -7,8 +7,5 @@ use Rattle.sp.proofs.write_dss.Given as goal
 
 abbrev pub invariant-loop-block : goal.invariant-loop-block
 invariant-loop-block l =
-    Blockwise l.file l.start.0 l.blocks (stream_at l.file l.start.0 l.blocks) (506 * l.blocks) l.initial.out l.initial.counts l.block l.first l.carry l.out l.counts
+    Blockwise l.file l.recording.start.0 l.recording.blocks (stream_at l.file l.recording.start.0 l.recording.blocks) (506 * l.recording.blocks) l.initial.out l.initial.counts l.block l.first l.carry l.out l.counts
 
-abbrev pub decreases-loop-block : goal.decreases-loop-block
-decreases-loop-block l =
-    l.blocks - l.block

@@ -7,9 +7,6 @@ use Rattle.sp.proofs.write_run.Given as goal
 
 abbrev pub invariant-loop-n : goal.invariant-loop-n
 invariant-loop-n l =
-    Running (stream_at l.file l.start.0 l.blocks) (506 * l.blocks) (record { place = l.initial.place.0; carry = l.initial.carried; swap = l.initial.swap }) l.base l.initial.out l.initial.counts l.count l.n
+    Running (stream_at l.file l.start.0 l.blocks) (506 * l.blocks) (record { place = l.initial.place.0; carry = l.initial.carried; swap = l.initial.swap }) l.base l.initial.out l.initial.counts l.n-end l.n
     (record { place = l.place.0; carry = l.carried; swap = l.swap }) l.out l.counts
 
-abbrev pub decreases-loop-n : goal.decreases-loop-n
-decreases-loop-n l =
-    l.count - l.n
