@@ -24,6 +24,7 @@ use Rattle.at_once.specs.Inner.{Ready}
 use Rattle.at_once.proofs.Straight.{one_alone}
 use Rattle.std.specs.Prelude.{Result, Ok, Err}
 use Rattle.refusals.specs.declared.Refusal.{Refusal}
+use Rattle.refusals.specs.declared.Refusal.TheVariants.{Beyond, Room}
 
 module _ (f : List ℕ) (rec : Recording) (k : ℕ) (out counts : List ℕ) where
   -- a run of the one read that the number says
@@ -39,8 +40,8 @@ module _ (f : List ℕ) (rec : Recording) (k : ℕ) (out counts : List ℕ) wher
       (subst (λ (w : Walk). RunWritten s (506 * rec.blocks) w 0 1 out out' counts counts' after) there r))
 
   -- the number is too high
-  pub beyond : (total : ℕ) → total ≡ announced_by f rec → total ≤ k → Demuxes (of_number f rec k) out out counts counts (Err (numbered 18 total))
-  beyond total is h = rw (le-ltb k (announced_by f rec) (omega (arith, is)), is) (passed_on (numbered 18 (announced_by f rec)) out counts)
+  pub beyond : (total : ℕ) → total ≡ announced_by f rec → total ≤ k → Demuxes (of_number f rec k) out out counts counts (Err (Beyond total))
+  beyond total is h = rw (le-ltb k (announced_by f rec) (omega (arith, is)), is) (passed_on (Beyond (announced_by f rec)) out counts)
 
   module _ (h : k < announced_by f rec) where
     -- an outcome of the one packet
@@ -48,7 +49,7 @@ module _ (f : List ℕ) (rec : Recording) (k : ℕ) (out counts : List ℕ) wher
         → Demuxes (of_number f rec k) out out' counts counts' answer
     of_packet d = rw (lt-ltb k (announced_by f rec) h) d
 
-    pub packet_no_room : leb 1 (room_in out counts) ≡ false → Demuxes (of_number f rec k) out out counts counts (Err (numbered 8 1))
+    pub packet_no_room : leb 1 (room_in out counts) ≡ false → Demuxes (of_number f rec k) out out counts counts (Err (Room 1))
     packet_no_room none = of_packet (no_room (straight f rec k) out counts 1 (sym (one_alone f rec k)) none)
 
     pub packet_with_room : {out' counts' : List ℕ} → leb 1 (room_in out counts) ≡ true → Written (straight f rec k) out out' counts counts'

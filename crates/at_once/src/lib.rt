@@ -69,6 +69,7 @@ fn read(
 }
 
 // The packet of this number of a DS2 SP file and its file-byte count, or a refusal that changes nothing.
+#[tactic(auto, using(sp::proofs::Outcome::may_read), unfolding(crate::specs::Straight::packet_reading, sp::specs::Outcome::in_room))]
 pub fn ds2_sp_packet(
     file: &[u8],
     number: usize,

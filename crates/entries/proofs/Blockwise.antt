@@ -41,7 +41,7 @@ module _ (f : List ℕ) (a n : ℕ) where
       }
 
   -- a block more, which announces something or nothing
-  pub before_next : (b number first count some : ℕ) → b < n → (count ≡ count_of f a b) × (count ≤ 255) → some ≡ min 1 count
+  pub before_next : (b number first count some : ℕ) → b < n → (count ≡ count_of f a b) × (count ≤ 255) → some ≡ min count 1
       → Before f a n b number first → Before f a n (b + 1) (number + some) (first + count)
   before_next b number first count some h is one w =
       record {

@@ -3,13 +3,13 @@
 use Prim.Native.Nat.{ℕ, ◌+◌, ◌*◌, ◌-◌, ◌/◌, ◌%◌, ◌≤◌, ◌<◌, ◌^◌}
 use mathlib.Core.Path.{◌≡◌, refl, sym, ap, ◌∙◌}
 use mathlib.Core.List.{List, [], ◌∷◌, ◌++◌}
-use mathlib.Core.Bool.{Bool, true, false}
+use mathlib.Core.Bool.{Bool, true, false, ◌&&◌}
 use native.Mathlib.Omega.{arith}
-use borrow.Author.Tests.{eq-eqb, eqb-true}
+use borrow.Author.Tests.{eq-eqb, eqb-true, ne_eqb}
 use lib.ListN.{length, get_or, take, drop, length-take, length-drop}
 use lib.Seq.{ext_get_or, get_or-take, get_or-drop, drop-drop, take-add, take-take}
 use lib.Dec.{eqb}
-use Rattle.tables.proofs.Cases.{by_order, by_test, never}
+use Rattle.tables.proofs.Cases.{by_order, by_equal, by_test, never}
 use Rattle.tables.proofs.Tests.{both_hold}
 use Rattle.tables.proofs.Parts.{drop_of_take}
 use Rattle.tables.proofs.Entries.{in_turn_at}
@@ -90,6 +90,23 @@ module _ (x : List ℕ) (at : ℕ) (entry : Entry) where
           word_stands x (at + 4) entry.first (omega arith) bytes two,
           word_stands x (at + 8) entry.place.0 (omega arith) bytes three,
         )))
+
+    -- so they stand where each word is the entry's, and only there
+    pub words_stand : Bytes x → Fits entry
+        → (eqb (word_at x at) entry.number && (eqb (word_at x (at + 4)) entry.first && eqb (word_at x (at + 8)) entry.place.0))
+        ≡ same there (entry_bytes entry)
+    words_stand bytes fits =
+        let front : at + 0 ≡ at = omega arith in
+        by_equal (word_at x at) entry.number
+        (λ one.
+        by_equal (word_at x (at + 4)) entry.first
+        (λ two.
+        by_equal (word_at x (at + 8)) entry.place.0
+        (λ three. simp (eq-eqb _ _ one, eq-eqb _ _ two, eq-eqb _ _ three) (all_words bytes one two three))
+        (λ not. simp (eq-eqb _ _ one, eq-eqb _ _ two, ne_eqb _ _ not) (other_word 8 entry.place.0 _ (omega arith) fits.place refl refl not)))
+        (λ not. simp (eq-eqb _ _ one, ne_eqb _ _ not) (other_word 4 entry.first _ (omega arith) fits.first refl refl not)))
+        (λ not.
+        simp (ne_eqb _ _ not) (other_word 0 entry.number _ (omega arith) fits.number refl (ap (word_at x) (sym front)) not))
 
 -- the parts of entries' bytes are the entries
 pub part_is : (entries : List Entry) (none : Entry) (i : ℕ) → i < length entries → part i (entries_bytes entries) ≡ entry_bytes (get_or entries i none)

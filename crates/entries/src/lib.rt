@@ -19,7 +19,7 @@ use whole::Recording;
 pub const ENTRY: usize = 12;
 
 // An entry: the number of an announcing block, the number of its first packet, and where its reads start in the payload stream.
-#[derive(Clone, Copy)]
+#[derive(Clone, Copy, Debug, PartialEq, Eq)]
 pub struct Entry {
     pub number: usize,
     pub first: usize,
@@ -90,10 +90,7 @@ pub fn stands(entry: Entry, index: &[u8], at: usize) -> bool
     requires { Fits entry × (at ≤ 2 ^ 48) }
     ensures { result ≡ same (take 12 (drop at index.now)) (entry_bytes entry) }
 {
-    at + ENTRY <= index.len()
-        && word_at(index, at) == entry.number
-        && word_at(index, at + 4) == entry.first
-        && word_at(index, at + 8) == entry.place.0
+    at + ENTRY <= index.len() && entry_at(index, at) == entry
 }
 
 // The entry of a block, before which so many packets are announced.

@@ -34,10 +34,11 @@ use Rattle.finding.specs.Inner.{first_at, Crosses, Searchable, Searched}
 use Rattle.finding.proofs.Last.{last_is, found_at, entries_rise, entries_some, first_begins}
 use Rattle.std.specs.Prelude.{Result, Ok, Err}
 use Rattle.refusals.specs.declared.Refusal.{Refusal}
+use Rattle.refusals.specs.declared.Refusal.TheVariants.{Beyond}
 
 -- the ways of a search
 pub searched_past : (x : List ℕ) (front : ℕ) (totals : Totals) (p : ℕ) → totals.packets ≤ p
-    → Searched x front totals p (Err (numbered 18 totals.packets))
+    → Searched x front totals p (Err (Beyond totals.packets))
 searched_past x front totals p h = record { past = λ l. refl; found = λ l. absurd (omega arith) }
 
 pub searched_at : (x : List ℕ) (front : ℕ) (totals : Totals) (p i : ℕ) (entry : Entry) → p < totals.packets → Crosses x front totals.entries p i
@@ -131,7 +132,3 @@ module _ (f x : List ℕ) (p : ℕ) where
   unfolding entry_found
   is_found rec said e is = is ∙ sym (onward_answered (λ rec. found_beside f rec x p) e)
 
--- an answer is read back from what it says
-pub found_back : (x : Result Entry Refusal) → read_from Ok Err (result_says x) ≡ x
-found_back (Ok entry) = refl
-found_back (Err why) = refl

@@ -15,7 +15,7 @@ use Rattle.blocks.specs.Headers.{Bytes}
 use Rattle.refusals.specs.declared.Numbers.{Numbers}
 use Rattle.refusals.specs.Numbers.{numbered}
 use Rattle.refusals.specs.Said.{Said, answers, refuses, refusal, demand, onward, result_says}
-use Rattle.refusals.proofs.Said.{for_the_answer, by_said, by_onward, went_on, onward_refused, onward_answered, onward_twice, only_one, read_from}
+use Rattle.refusals.proofs.Said.{for_the_answer, by_said, by_onward, went_on, onward_refused, onward_answered, onward_twice}
 use Rattle.whole.specs.declared.Recording.{Recording}
 use Rattle.whole.specs.Admissions.{admission}
 use Rattle.sp.specs.ReadLists.{dss_runs}
@@ -32,7 +32,7 @@ use Rattle.index.proofs.Theorems.{only_one_index, its_index_is_read, every_readi
 use Rattle.finding.specs.Finding.{last_in, found_in, found_beside, entry_found}
 use Rattle.finding.specs.Packet.{stands_by, by_entry, packet_beside, packet_found}
 use Rattle.finding.specs.Agreement.{HasPacket, said_by}
-use Rattle.finding.proofs.Searching.{found_has, found_back}
+use Rattle.finding.proofs.Searching.{found_has}
 use Rattle.finding.proofs.Carried.{alone_total, is_one_packet}
 use Rattle.finding.proofs.find_entry.Kinds as finds
 use Rattle.finding.proofs.find_entry.Reads as finds-reads
@@ -40,6 +40,7 @@ use Rattle.finding.proofs.dss_packet.Kinds as packet
 use Rattle.finding.proofs.dss_packet.Reads as packet-reads
 use Rattle.std.specs.Prelude.{Result, Ok, Err}
 use Rattle.refusals.specs.declared.Refusal.{Refusal}
+use Rattle.refusals.proofs.Results.{only_result}
 
 module _ (f x : List ℕ) (p : ℕ) where
   -- Finding is reading the index, all of it, and then looking the number up: whatever reading is refused by, finding is, and 18 comes after that.
@@ -174,7 +175,7 @@ module _ (f : List ℕ) (r : Reading) (p : ℕ) (e : dss_reading f ≡ answers r
 -- Two outcomes of `find_entry` that its contract allows for the same arguments are equal, and so of `dss_packet`: answer, output and counts. The
 -- contract is the one in the source, as the check reads it.
 pub find_entry_settled : SettledResult 2 finds.ps finds.r finds-reads.Post
-find_entry_settled κs a x y s t p q = only_one result_says (read_from Ok Err) found_back x y _ p q
+find_entry_settled κs a x y s t p q = only_result x y _ p q
 
 pub dss_packet_settled : SettledAs 4 packet.ps packet.r (λ κs. Seen) (λ κs x s. (x, s.1.1.1.0.now, s.1.1.1.1.0.now)) packet-reads.Post
 dss_packet_settled κs a x y s t p q = only_outcome p q

@@ -60,6 +60,7 @@ pub fn look_up(index: &[u8], front: usize, totals: Totals, packet: usize) -> Res
 }
 
 // The entry for a packet of a recording, by an index that is held to the recording first.
+#[tactic(auto, using(crate::proofs::Searching::search_finds), unfolding(crate::specs::Finding::found_beside))]
 fn find(file: &[u8], recording: Recording, index: &[u8], packet: usize) -> Result<Entry, Refusal>
     requires { Sound file.now recording }
     ensures { result_says result ≡ found_beside file.now recording index.now packet }
@@ -69,6 +70,7 @@ fn find(file: &[u8], recording: Recording, index: &[u8], packet: usize) -> Resul
 }
 
 // The entry for a packet of a DSS file by its number, or why there is none.
+#[tactic(auto, unfolding(crate::specs::Finding::entry_found))]
 pub fn find_entry(file: &[u8], index: &[u8], packet: usize) -> Result<Entry, Refusal>
     ensures { result_says result ≡ entry_found file.now index.now packet }
 {
@@ -163,6 +165,7 @@ fn deliver(
 }
 
 // Hands out a recording's packet of this number by an index, which is held to the recording first.
+#[tactic(auto, unfolding(crate::specs::Packet::packet_beside, sp::specs::Outcome::in_room))]
 fn read(
     file: &[u8],
     recording: Recording,
@@ -179,6 +182,7 @@ fn read(
 }
 
 // The packet of this number of a DSS file by its index, and its file-byte count, or a refusal that changes nothing.
+#[tactic(auto, unfolding(crate::specs::Packet::packet_found, sp::specs::Outcome::in_room))]
 pub fn dss_packet(
     file: &[u8],
     index: &[u8],

@@ -19,10 +19,12 @@ use Rattle.refusals.specs.declared.Numbers.{Numbers}
 use Rattle.refusals.specs.Said.{Said, answers, refuses, demand, refusal}
 use Rattle.refusals.proofs.Said.{passed, went_on}
 use Rattle.whole.specs.declared.Recording.{Recording}
-use Rattle.whole.specs.Admissions.{admission, stream_in}
+use Rattle.whole.specs.Admissions.{Sound, admission, stream_in}
 use Rattle.whole.proofs.Admissions.{sound}
 use Rattle.frames.specs.declared.Fetched.{Fetched}
-use Rattle.frames.specs.declared.Fetched.TheVariants.{Refused}
+use Rattle.std.specs.Prelude.{Result, Ok, Err}
+use Rattle.refusals.specs.declared.Refusal.{Refusal}
+use Rattle.refusals.specs.Numbers.{numbers_of}
 use Rattle.frames.specs.Fetch.{can_fetch, fetch_from, is_inside, in_file, in_scratch, stand_in, standing, fetched_says, filled_from, filled, shown_from, shown, Fills}
 use Rattle.frames.specs.Inner.{Fetchable}
 use Rattle.tables.proofs.Cases.{by_test}
@@ -63,6 +65,21 @@ module _ (rec : Recording) (q size : ℕ) where
   pub stands_in_scratch : is_inside q size ≡ false → answers in_scratch ≡ answers (stand_in rec q size)
   stands_in_scratch h = simp h
 
+-- where a frame can be fetched from a recording, it lies in the stream, and the scratch is large enough
+pub fetchable : (f : List ℕ) (rec : Recording) (q size room : ℕ) → Sound f rec → can_fetch rec.blocks q size room ≡ true → Fetchable f rec q size room
+unfolding can_fetch
+fetchable f rec q size room sound can =
+    let t = both_hold (leb 1 size) _ can in
+    let u = both_hold (leb size 56) _ t.1 in
+    let v = both_hold (leb (q + size) (506 * rec.blocks)) (leb 56 room) u.1 in
+    record {
+      whole = sound.whole;
+      some = leb-true 1 size t.0;
+      most = leb-true size 56 u.0;
+      there = leb-true (q + size) (506 * rec.blocks) v.0;
+      roomy = leb-true 56 room v.1;
+    }
+
 -- the ways of a request
 module _ (f : List ℕ) (q size room : ℕ) where
   pub fetch_refused : {why : Numbers} → refusal why ≡ admission f false true → refusal why ≡ fetch_from f q size room
@@ -77,25 +94,14 @@ module _ (f : List ℕ) (q size room : ℕ) where
   -- where a frame can be fetched, its file was admitted, and it lies in the stream
   pub fetched_from : (rec : Recording) → fetch_from f q size room ≡ answers rec
       → (admission f false true ≡ answers rec) × Fetchable f rec q size room
-  unfolding fetch_from can_fetch
+  unfolding fetch_from
   fetched_from rec e =
       let w = went_on (admission f false true) (λ r. demand (can_fetch r.blocks q size room) 12 0 (answers r)) e in
       let test = passed (can_fetch w.0.blocks q size room) 12 0 (answers w.0) w.2 in
       let same : w.0 ≡ rec = cc in
       let admitted : admission f false true ≡ answers rec = rw (← same) w.1 in
       let can : can_fetch rec.blocks q size room ≡ true = rw (← same) test.0 in
-      let t = both_hold (leb 1 size) _ can in
-      let u = both_hold (leb size 56) _ t.1 in
-      let v = both_hold (leb (q + size) (506 * rec.blocks)) (leb 56 room) u.1 in (
-        admitted,
-        record {
-          whole = (sound f false true rec admitted).whole;
-          some = leb-true 1 size t.0;
-          most = leb-true size 56 u.0;
-          there = leb-true (q + size) (506 * rec.blocks) v.0;
-          roomy = leb-true 56 room v.1;
-        },
-      )
+      (admitted, fetchable f rec q size room (sound f false true rec admitted) can)
 
   -- its place in the file has a number of 64 bits
   pub in_the_file : length f < 2 ^ 64 → (rec : Recording) → fetch_from f q size room ≡ answers rec → (size ≤ 56) × (file_of rec.start.0 q < 2 ^ 64)
@@ -116,8 +122,8 @@ module _ (f : List ℕ) (q size room : ℕ) where
 
 -- what the two calls do with a scratch
 module _ (f : List ℕ) (q size : ℕ) (scratch : List ℕ) where
-  pub fill_refused : (why : Numbers) → refusal why ≡ fetch_from f q size (length scratch)
-      → Fills f q size scratch scratch (Refused why)
+  pub fill_refused : (why : Refusal) → refusal (numbers_of why) ≡ fetch_from f q size (length scratch)
+      → Fills f q size scratch scratch (Err why)
   unfolding filled
   fill_refused why e = record { answer_is = stand_refused f q size (length scratch) e; scratch_is = rw (← e) }
 
@@ -127,7 +133,7 @@ module _ (f : List ℕ) (q size : ℕ) (scratch : List ℕ) where
   show_refused e = rw (← e)
 
   module _ (rec : Recording) (taken : answers rec ≡ fetch_from f q size (length scratch)) where
-    pub fill_is : (scratch' : List ℕ) (answer : Fetched) → fetched_says answer ≡ answers (stand_in rec q size)
+    pub fill_is : (scratch' : List ℕ) (answer : Result Fetched Refusal) → fetched_says answer ≡ answers (stand_in rec q size)
         → scratch' ≡ filled_from f rec q size scratch → Fills f q size scratch scratch' answer
     unfolding filled
     fill_is scratch' answer says bytes =

@@ -16,7 +16,7 @@ use Rattle.refusals.proofs.Said.{only_one}
 use Rattle.whole.specs.declared.Recording.{Recording}
 use Rattle.whole.specs.Admissions.{admission}
 use Rattle.frames.specs.declared.Fetched.{Fetched}
-use Rattle.frames.specs.declared.Fetched.TheVariants.{InFile, InScratch, Refused}
+use Rattle.frames.specs.declared.Fetched.TheVariants.{InFile, InScratch}
 use Rattle.frames.specs.Fetch.{Stand, in_file, in_scratch, fetch_from, is_inside, fetched_says, shown, Fills}
 use Rattle.frames.specs.Cut.{cut, fetched_bytes, fetched_frames}
 use Rattle.refusals.proofs.Said.{by_said}
@@ -31,6 +31,9 @@ use Rattle.frames.proofs.fill.Kinds as filling
 use Rattle.frames.proofs.fill.Reads as filling-reads
 use Rattle.frames.proofs.show.Kinds as part
 use Rattle.frames.proofs.show.Reads as part-reads
+use Rattle.std.specs.Prelude.{Result, Ok, Err}
+use Rattle.refusals.specs.declared.Refusal.{Refusal}
+use Rattle.refusals.proofs.Results.{refusal_from, refusal_back}
 
 -- Where a frame can be fetched, `fill` and then `show` give the payload stream's bytes from its place on.
 pub fill_then_show : (f : List ℕ) (rec : Recording) (q size : ℕ) (scratch : List ℕ) → fetch_from f q size (length scratch) ≡ answers rec
@@ -63,7 +66,7 @@ shows_nothing_exactly f q size scratch = (
       (λ why said. (why, said))),
 )
 
-module _ (f : List ℕ) (q size : ℕ) (scratch scratch' : List ℕ) (answer : Fetched) (d : Fills f q size scratch scratch' answer) where
+module _ (f : List ℕ) (q size : ℕ) (scratch scratch' : List ℕ) (answer : Result Fetched Refusal) (d : Fills f q size scratch scratch' answer) where
   -- A refused `fill` changes nothing.
   pub refused_fill_changes_nothing : (why : Numbers) → fetched_says answer ≡ refusal why → scratch' ≡ scratch
   refused_fill_changes_nothing why e =
@@ -96,16 +99,16 @@ frames_are_cut f rec scratch start long n admitted there roomy =
     ∙ ap (λ (x : ℕ). cut n (take long (drop x (joined f rec.start.0 rec.blocks)))) place
 
 -- an answer is read back from what it says
-fetched_read : Said Stand → Fetched
-fetched_read (answers (in_file at)) = InFile (record { 0 = at })
-fetched_read (answers in_scratch) = InScratch
-fetched_read (refusal why) = Refused why
+fetched_read : Said Stand → Result Fetched Refusal
+fetched_read (answers (in_file at)) = Ok (InFile (record { 0 = at }))
+fetched_read (answers in_scratch) = Ok InScratch
+fetched_read (refusal why) = Err (refusal_from why)
 
-fetched_back : (x : Fetched) → fetched_read (fetched_says x) ≡ x
+fetched_back : (x : Result Fetched Refusal) → fetched_read (fetched_says x) ≡ x
 unfolding fetched_read
-fetched_back (InFile at) = refl
-fetched_back InScratch = refl
-fetched_back (Refused why) = refl
+fetched_back (Ok (InFile at)) = refl
+fetched_back (Ok InScratch) = refl
+fetched_back (Err why) = ap (λ (w : Refusal). Err w) (refusal_back why)
 
 -- Two outcomes of `frame` that its contract allows for the same arguments are equal. The contract is the one in the source, as the
 -- check reads it.
@@ -117,14 +120,14 @@ pub frame_place_settled : SettledResult 1 place.ps place.r place-reads.Post
 frame_place_settled κs a x y s t p q = only_one fetched_says fetched_read fetched_back x y _ p q
 
 -- two outcomes of `fill` are the same: its answer and the scratch
-pub only_filled : {f : List ℕ} {q size : ℕ} {scratch one' other' : List ℕ} {one other : Fetched} → Fills f q size scratch one' one
-    → Fills f q size scratch other' other → ◌≡◌ {A = Fetched × List ℕ} (one, one') (other, other')
+pub only_filled : {f : List ℕ} {q size : ℕ} {scratch one' other' : List ℕ} {one other : Result Fetched Refusal} → Fills f q size scratch one' one
+    → Fills f q size scratch other' other → ◌≡◌ {A = Result Fetched Refusal × List ℕ} (one, one') (other, other')
 only_filled {one = one} {other = other} p q =
     let answer : one ≡ other = only_one fetched_says fetched_read fetched_back one other _ p.answer_is q.answer_is in
     cc (answer, p.scratch_is, q.scratch_is)
 
 -- And so of `fill`: its answer and the scratch.
-pub fill_settled : SettledAs 2 filling.ps filling.r (λ κs. Fetched × List ℕ) (λ κs x s. (x, s.1.1.1.0.now)) filling-reads.Post
+pub fill_settled : SettledAs 2 filling.ps filling.r (λ κs. Result Fetched Refusal × List ℕ) (λ κs x s. (x, s.1.1.1.0.now)) filling-reads.Post
 fill_settled κs a x y s t p q = only_filled p q
 
 -- And so of `show`: the bytes of the part.

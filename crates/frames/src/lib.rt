@@ -2,11 +2,11 @@
 // Rests on whole, which says whether the file is taken, and on refusals, blocks and tables.
 #![tactic(auto)]
 
-ghost use Rattle.std.specs.Prelude.{◌≡◌, ◌+◌, ◌*◌, ◌<◌, ◌≤◌, ◌^◌, false, length};
+ghost use Rattle.std.specs.Prelude.{◌≡◌, ◌+◌, ◌*◌, ◌<◌, ◌≤◌, ◌^◌, false, length, IfOk};
 ghost use Rattle.tables.specs.Lent.{Leaves};
 ghost use Rattle.blocks.specs.Places.{Whole, file_of};
 ghost use Rattle.blocks.specs.Headers.{first_of};
-ghost use Rattle.refusals.specs.Said.{answers, demand, result_says};
+ghost use Rattle.refusals.specs.Said.{result_says};
 ghost use Rattle.whole.specs.Admissions.{stream_in, Sound};
 ghost use Rattle.frames.specs.Start.{frames_start};
 ghost use Rattle.frames.specs.Frames.{frame_of};
@@ -39,6 +39,7 @@ pub enum Fetched {
 
 // For the crates above. Where the frames of a QP or QP7 block start, by its number and its byte 1. A file within the limit has under
 // 2^20 blocks.
+#[tactic(auto, unfolding(crate::specs::Start::frames_start))]
 pub fn frames_start(block: usize, byte1: usize) -> StreamPlace
     requires { (block ≤ 2 ^ 48) × (byte1 ≤ 255) }
     ensures { (result.0 ≡ frames_start block byte1) × (result.0 < 506 * (block + 1)) }
@@ -83,11 +84,12 @@ pub fn frame(start: StreamPlace, long: usize, k: usize) -> Found
     }
     Found {
         place: StreamPlace(from + far),
-        size: left.min(FRAME),
+        size: FRAME.min(left),
     }
 }
 
 // Whether a frame can be fetched from the stream of so many blocks, by a scratch of so many bytes.
+#[tactic(auto, unfolding(crate::specs::Fetch::can_fetch))]
 fn can_fetch(blocks: usize, place: StreamPlace, size: usize, room: usize) -> bool
     requires { blocks ≤ 524288 }
     ensures { result ≡ can_fetch blocks place.0 size room }
@@ -96,33 +98,22 @@ fn can_fetch(blocks: usize, place: StreamPlace, size: usize, room: usize) -> boo
     1 <= size && size <= FRAME && place.0 <= end && size <= end - place.0 && FRAME <= room
 }
 
-// A recording, if the frame can be fetched from it.
-fn with_frame(
-    recording: Recording,
-    place: StreamPlace,
-    size: usize,
-    room: usize,
-) -> Result<Recording, Refusal>
-    requires { recording.blocks ≤ 524288 }
-    ensures { result_says result ≡ demand (can_fetch recording.blocks place.0 size room) 12 0 (answers recording) }
-{
-    if can_fetch(recording.blocks, place, size, room) {
-        return Ok(recording);
-    }
-    Err(Refusal::Absent)
-}
-
 // The recording that a frame is fetched from: the one place of the refusals.
+#[tactic(auto, using(crate::proofs::Fetch::fetchable), unfolding(crate::specs::Fetch::fetch_from))]
 fn fetch_from(
     file: &[u8],
     place: StreamPlace,
     size: usize,
     room: usize,
 ) -> Result<Recording, Refusal>
-    ensures { result_says result ≡ fetch_from file.now place.0 size room }
+    ensures says { result_says result ≡ fetch_from file.now place.0 size room }
+    ensures fetchable { IfOk result (λ recording. Fetchable file.now recording place.0 size room) }
 {
     let recording = whole::admit(file, false, true)?;
-    with_frame(recording, place, size, room)
+    if !can_fetch(recording.blocks, place, size, room) {
+        return Err(Refusal::Absent);
+    }
+    Ok(recording)
 }
 
 // Whether a frame lies inside one block.
@@ -165,6 +156,7 @@ fn stand_in(recording: Recording, place: StreamPlace, size: usize) -> Fetched
 }
 
 // Where a frame stands, or why it cannot be fetched, if the scratch has so many bytes. Nothing is written.
+#[tactic(auto, unfolding(crate::specs::Fetch::standing))]
 pub fn frame_place(
     file: &[u8],
     place: StreamPlace,
@@ -178,6 +170,7 @@ pub fn frame_place(
 }
 
 // Fills the scratch with a frame that can be fetched, if the frame crosses a block.
+#[tactic(auto, using(tables::proofs::Lent::leaves_over))]
 fn fill_from(
     file: &[u8],
     recording: Recording,
@@ -196,6 +189,7 @@ fn fill_from(
 }
 
 // The first of the two calls that fetch a frame: fills the scratch if the frame crosses a block.
+#[tactic(auto, unfolding(crate::specs::Fetch::standing, crate::specs::Fetch::filled))]
 pub fn fill(
     file: &[u8],
     place: StreamPlace,
@@ -227,6 +221,7 @@ fn show_from<'a>(
 }
 
 // The second of the two calls that fetch a frame: shows it as a part of the file or of the scratch, and an empty part where it refuses.
+#[tactic(auto, unfolding(crate::specs::Fetch::shown))]
 pub fn show<'a>(file: &'a [u8], place: StreamPlace, size: usize, scratch: &'a [u8]) -> &'a [u8]
     ensures { result.now ≡ shown file.now place.0 size scratch.now }
 {

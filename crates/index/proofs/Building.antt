@@ -21,9 +21,12 @@ use Rattle.entries.specs.Index.{front_bytes, entries_bytes, edition1, size_of}
 use Rattle.entries.specs.Inner.{Lays}
 use Rattle.entries.proofs.Laying.{index_long, lays_join}
 use Rattle.index.specs.Reading.{contents_of}
+use Rattle.index.specs.declared.Size.{Size}
 use Rattle.index.specs.Outcome.{in_room, Builds}
 use Rattle.std.specs.Prelude.{Result, Ok, Err}
 use Rattle.refusals.specs.declared.Refusal.{Refusal}
+use Rattle.refusals.specs.Numbers.{numbers_of}
+use Rattle.refusals.specs.declared.Refusal.TheVariants.{Room}
 
 -- the front: the length, and the version
 pub front_laid : (d e : List ℕ) (entries : ℕ) → 5 ≤ length d → Lays d 0 (word32 (1 + 12 * entries)) e → Lays d 0 (front_bytes edition1 entries) (set e 4 1)
@@ -35,7 +38,7 @@ module _ (c : Contents) (out : List ℕ) (entries : ℕ) (is : entries ≡ lengt
   bytes_are : 5 + 12 * entries ≡ size_of c
   bytes_are = omega (arith, index_long edition1 c.entries, is)
 
-  pub no_room : length out < 5 + 12 * entries → Builds (answers c) out out (Err (numbered 8 (5 + 12 * entries)))
+  pub no_room : length out < 5 + 12 * entries → Builds (answers c) out out (Err (Room (5 + 12 * entries)))
   unfolding in_room
   no_room h =
       let full : leb (size_of c) (length out) ≡ false = lt-leb (size_of c) (length out) (omega (arith, bytes_are)) in
@@ -57,7 +60,7 @@ module _ (c : Contents) (out : List ℕ) (entries : ℕ) (is : entries ≡ lengt
 
 -- what was admitted: a refusal is passed on, and of a recording the index is built
 module _ (f out : List ℕ) where
-  pub not_taken : (why : Numbers) → refusal why ≡ admission f true false → Builds (contents_of f) out out (Err why)
+  pub not_taken : (why : Refusal) → refusal (numbers_of why) ≡ admission f true false → Builds (contents_of f) out out (Err why)
   unfolding contents_of in_room
   not_taken why e = rw (← e) (record { answer_is = refl; out_is = refl })
 
@@ -66,7 +69,3 @@ module _ (f out : List ℕ) where
   unfolding contents_of
   taken rec out' answer e b = rw (← e) b
 
--- an answer is read back from what it says
-pub built_back : (x : Result Size Refusal) → read_from Ok Err (result_says x) ≡ x
-built_back (Ok size) = refl
-built_back (Err why) = refl

@@ -93,7 +93,3 @@ module _ (f x : List ℕ) where
   unfolding index_read
   is_read rec said e is = is ∙ sym (ap totalled (onward_answered (λ rec. read_beside f rec x) e))
 
--- an answer is read back from what it says
-pub read_back : (x : Result Totals Refusal) → read_from Ok Err (result_says x) ≡ x
-read_back (Ok totals) = refl
-read_back (Err why) = refl

@@ -17,7 +17,7 @@ use Rattle.tables.proofs.Lent.{leaves_at, over_leaves}
 use Rattle.blocks.specs.Headers.{Bytes}
 use Rattle.refusals.specs.declared.Numbers.{Numbers}
 use Rattle.refusals.specs.Said.{Said, answers, refuses, refusal, result_says}
-use Rattle.refusals.proofs.Said.{not_both, for_the_answer, by_refusal, went_on, by_onward, onward_refused, onward_answered, only_one, read_from, asked_of}
+use Rattle.refusals.proofs.Said.{not_both, for_the_answer, by_refusal, went_on, by_onward, onward_refused, onward_answered, asked_of}
 use Rattle.whole.specs.declared.Recording.{Recording}
 use Rattle.whole.specs.Admissions.{admission, Sound}
 use Rattle.whole.proofs.Admissions.{sound, few_blocks}
@@ -41,8 +41,7 @@ use Rattle.index.specs.LaidOut.{LaidOut}
 use Rattle.index.specs.Unreadable.{FirstWrong, Unreadable}
 use Rattle.index.specs.Unreadable.Unreadable.{no_length, other_version, not_entries}
 use Rattle.index.proofs.Framed.{has_length, with_length, framed_says, is_index, framed_built}
-use Rattle.index.proofs.Building.{built_back}
-use Rattle.index.proofs.Reading.{asked, read_back}
+use Rattle.index.proofs.Reading.{asked}
 use Rattle.index.proofs.LaidOut.{index_laid_out}
 use Rattle.index.proofs.build_index.Kinds as builds
 use Rattle.index.proofs.build_index.Reads as builds-reads
@@ -50,6 +49,7 @@ use Rattle.index.proofs.read_index.Kinds as reads
 use Rattle.index.proofs.read_index.Reads as reads-reads
 use Rattle.std.specs.Prelude.{Result, Ok, Err}
 use Rattle.refusals.specs.declared.Refusal.{Refusal}
+use Rattle.refusals.proofs.Results.{only_result}
 
 -- what an index of a file speaks of is the recording's
 spoken_of : (f : List ℕ) (c : Contents) → contents_of f ≡ answers c
@@ -238,14 +238,14 @@ pub only_built : {contents : Said Contents} {out out₁ out₂ : List ℕ} {one 
     → ◌≡◌ {A = Result Size Refusal × List ℕ} (one, out₁) (other, out₂)
 only_built {contents} {out} {one = one} {other = other} p q =
     let answer : one ≡ other =
-    only_one result_says (read_from Ok Err) built_back one other (sized (in_room contents (length out))) p.answer_is q.answer_is in
+    only_result one other (sized (in_room contents (length out))) p.answer_is q.answer_is in
     cc (answer, p.out_is, q.out_is)
 
 pub build_index_settled : SettledAs 2 builds.ps builds.r (λ κs. Result Size Refusal × List ℕ) (λ κs x s. (x, s.1.0.now)) builds-reads.Post
 build_index_settled κs a x y s t p q = only_built p q
 
 pub read_index_settled : SettledResult 2 reads.ps reads.r reads-reads.Post
-read_index_settled κs a x y s t p q = only_one result_says (read_from Ok Err) read_back x y _ p q
+read_index_settled κs a x y s t p q = only_result x y _ p q
 
 -- Where no block announces anything the index is 00 00 00 01 01. With one entry of the numbers 01020304, 05060708 and 090A0B0C, each as four bytes are
 -- written, it is 00 00 00 0D 01, and then those bytes in that order.

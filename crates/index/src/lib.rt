@@ -52,6 +52,7 @@ fn build(file: &[u8], recording: Recording, out: &mut [u8]) -> Result<Size, Refu
 }
 
 // The index of a DSS file, over the front of the output, or a refusal that changes nothing.
+#[tactic(auto, unfolding(crate::specs::Reading::contents_of, crate::specs::Outcome::in_room))]
 pub fn build_index(file: &[u8], out: &mut [u8]) -> Result<Size, Refusal>
     ensures { Builds (contents_of file.now) out.old out.new result }
 {
@@ -97,6 +98,7 @@ pub fn hold(file: &[u8], recording: Recording, index: &[u8]) -> Result<Totals, R
 }
 
 // Reads an index with its DSS file lent: how many entries and packets there are, or why it is not the file's.
+#[tactic(auto, unfolding(crate::specs::Reading::index_read))]
 pub fn read_index(file: &[u8], index: &[u8]) -> Result<Totals, Refusal>
     ensures { result_says result ≡ totalled (index_read file.now index.now) }
 {

@@ -22,6 +22,7 @@ fn is_first(first: u8) -> bool
 }
 
 // Whether a caller may supply this header.
+#[tactic(auto, unfolding(crate::specs::Header::is_header))]
 pub fn is_header(header: &[u8]) -> bool
     ensures { result ≡ is_header header.now }
 {
@@ -33,7 +34,7 @@ fn lay_silent(out: &mut [u8], at: usize, kind: u8)
     requires { at + 512 ≤ length out.old }
     ensures { Leaves out.old at 512 (block_byte (no_frames kind) 0) out.new }
 {
-    out[at..at + BLOCK].fill(0);
+    tables::clear(out, at, BLOCK);
     out[at] = 0x0F;
     out[at + 3] = 0xFF;
     out[at + 4] = kind;

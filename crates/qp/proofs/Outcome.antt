@@ -15,7 +15,7 @@ use Rattle.tables.proofs.Entries.{in_turn_long, fronts_all, fronts_nothing}
 use Rattle.refusals.specs.declared.Numbers.{Numbers}
 use Rattle.refusals.specs.Numbers.{numbered}
 use Rattle.refusals.specs.Said.{Said, answers, refusal, result_says}
-use Rattle.refusals.proofs.Said.{went_on, only_one, read_from, asked_of}
+use Rattle.refusals.proofs.Said.{went_on, asked_of}
 use Rattle.whole.specs.declared.Recording.{Recording}
 use Rattle.detect.specs.declared.Kind.TheVariants.{Qp}
 use Rattle.whole.specs.Admissions.{announced_by, ds2_admission}
@@ -25,6 +25,9 @@ use Rattle.qp.specs.Outcome.{width, entry_of, words, in_room, in_table, totals_o
 use Rattle.qp.specs.Inner.{Holds}
 use Rattle.std.specs.Prelude.{Result, Ok, Err}
 use Rattle.refusals.specs.declared.Refusal.{Refusal}
+use Rattle.refusals.specs.Numbers.{numbers_of}
+use Rattle.refusals.specs.declared.Refusal.TheVariants.{Segments}
+use Rattle.refusals.proofs.Results.{only_result}
 
 -- the entries that are written at once, which are all that can be or none, and the rest
 module _ (f : List ℕ) (rec : Recording) (room written needed : ℕ) (is : needed ≡ length (segments_from f rec)) (table between : List ℕ)
@@ -40,7 +43,7 @@ module _ (f : List ℕ) (rec : Recording) (room written needed : ℕ) (is : need
   unwritten : written ≡ 0 → between ≡ table
   unwritten none = fronts_nothing (width * written) (words (segments_from f rec)) (omega (arith, none)) first
 
-  pub no_room : room < needed → Demuxes (answers (reading_of f rec)) table between (Err (numbered 9 needed))
+  pub no_room : room < needed → Demuxes (answers (reading_of f rec)) table between (Err (Segments needed))
   unfolding in_room
   no_room full =
       let over : leb (length (segments_from f rec)) (length table / width) ≡ false = lt-leb (length (segments_from f rec)) (length table / width) (omega (arith, full, is, roomy)) in
@@ -67,7 +70,7 @@ module _ (f : List ℕ) (rec : Recording) (room written needed : ℕ) (is : need
 
 -- what was admitted: a refusal is passed on, and a recording goes on to be read
 module _ (f : List ℕ) (table : List ℕ) where
-  pub not_taken : (why : Numbers) → refusal why ≡ ds2_admission f Qp
+  pub not_taken : (why : Refusal) → refusal (numbers_of why) ≡ ds2_admission f Qp
       → Demuxes (qp_reading f) table table (Err why)
   unfolding qp_reading in_room
   not_taken why e = rw (← e) (record { answer_is = refl; table_is = refl })
@@ -77,11 +80,6 @@ module _ (f : List ℕ) (table : List ℕ) where
   unfolding qp_reading
   taken rec table' answer e d = rw (← e) d
 
--- an answer is read back from what it says
-demuxed_back : (x : Result Totals Refusal) → read_from Ok Err (result_says x) ≡ x
-demuxed_back (Ok totals) = refl
-demuxed_back (Err why) = refl
-
 -- what is seen of an outcome
 abbrev pub Seen : Type 0
 Seen = Result Totals Refusal × List ℕ
@@ -89,7 +87,7 @@ Seen = Result Totals Refusal × List ℕ
 pub only_outcome : {reading : Said Reading} {table one' other' : List ℕ} {one other : Result Totals Refusal} → Demuxes reading table one' one
     → Demuxes reading table other' other → ◌≡◌ {A = Seen} (one, one') (other, other')
 only_outcome {reading} {table} {one'} {other'} {one} {other} d e =
-    let answer : one ≡ other = only_one result_says (read_from Ok Err) demuxed_back one other _ d.answer_is e.answer_is in
+    let answer : one ≡ other = only_result one other _ d.answer_is e.answer_is in
     cc (answer, d.table_is, e.table_is)
 
 -- what an accepted call has read

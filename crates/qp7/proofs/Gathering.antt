@@ -113,7 +113,7 @@ module _ (f : List ℕ) (rec : Recording) (most : Totals) (records segments : Li
           there = stands_answered (gone_on f rec b so.here) next (ap result_says (sym is) ∙ step.answer_is)
 
       -- a block that is refused
-      pub gathering_stops : (why : Numbers) → came ≡ Err why → b < rec.blocks
+      pub gathering_stops : (why : Refusal) → came ≡ Err why → b < rec.blocks
           → GoesOn most nothing (gathered_from f rec) records records'' segments segments'' came
       gathering_stops why is h =
           record {

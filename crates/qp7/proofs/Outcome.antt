@@ -12,7 +12,7 @@ use Rattle.tables.proofs.Entries.{in_turn_long, fronts_none, fronts_begin, front
 use Rattle.refusals.specs.declared.Numbers.{Numbers}
 use Rattle.refusals.specs.Numbers.{numbered}
 use Rattle.refusals.specs.Said.{Said, answers, refuses, refusal, demand, result_says}
-use Rattle.refusals.proofs.Said.{passed, went_on, only_outcome_of, for_the_answer, read_from}
+use Rattle.refusals.proofs.Said.{passed, went_on, for_the_answer}
 use Rattle.whole.specs.declared.Recording.{Recording}
 use Rattle.detect.specs.declared.Kind.TheVariants.{Qp7}
 use Rattle.whole.specs.Admissions.{ds2_admission}
@@ -24,14 +24,17 @@ use Rattle.qp7.specs.Inner.{numbers_at, GoesOn}
 use Rattle.qp7.proofs.Gathering.{stands_answered, stands_refused}
 use Rattle.std.specs.Prelude.{Result, Ok, Err}
 use Rattle.refusals.specs.declared.Refusal.{Refusal}
+use Rattle.refusals.specs.Numbers.{numbers_of}
+use Rattle.refusals.specs.declared.Refusal.TheVariants.{Room, Segments}
+use Rattle.refusals.proofs.Results.{only_result_with}
 
 -- a segment has three words
 pub segment_words_lem : (g : Gathered) → length (segment_words g) ≡ width * length g.closed
 segment_words_lem g = in_turn_long entry_of width (λ x. refl) g.closed
 
 -- a refusal is passed on
-passed_on : (why : Numbers) (records segments : List ℕ)
-    → Demuxes (refusal why) records records segments segments (Err why)
+passed_on : (why : Refusal) (records segments : List ℕ)
+    → Demuxes (refusal (numbers_of why)) records records segments segments (Err why)
 unfolding in_room
 passed_on why records segments = record { answer_is = refl; records_are = refl; segments_are = refl }
 
@@ -72,22 +75,22 @@ outcome_by {reading} {records} {records'} {segments} {segments'} {answer} in-roo
 -- what a call does with a recording that was counted
 module _ (said : Said Gathered) (walk : Walk) (counted : answers walk ≡ numbers_at said) (records segments : List ℕ) where
   -- too little room for its records
-  pub few_records : length records < walk.records → Demuxes said records records segments segments (Err (numbered 8 walk.records))
+  pub few_records : length records < walk.records → Demuxes said records records segments segments (Err (Room walk.records))
   few_records h =
       let w = stands_answered said walk counted in
       let many : walk.records ≡ length w.0.records = ap (λ (v : Walk). v.records) w.2 in
-      outcome_as w.1 (ap (λ (n : ℕ). Err (numbered 8 n)) many)
+      outcome_as w.1 (ap (λ (n : ℕ). Err (Room n)) many)
       (outcome_by (refuses 8 (length w.0.records))
       (room_8 w.0 (length records) (length segments / width) (omega (arith, h, many))) refl refl refl)
 
   -- too little room for its segments
   pub few_segments : walk.records ≤ length records → length segments / width < walk.segments
-      → Demuxes said records records segments segments (Err (numbered 9 walk.segments))
+      → Demuxes said records records segments segments (Err (Segments walk.segments))
   few_segments l h =
       let w = stands_answered said walk counted in
       let many : walk.segments ≡ length w.0.closed = ap (λ (v : Walk). v.segments) w.2 in
       let places : walk.records ≡ length w.0.records = ap (λ (v : Walk). v.records) w.2 in
-      outcome_as w.1 (ap (λ (n : ℕ). Err (numbered 9 n)) many)
+      outcome_as w.1 (ap (λ (n : ℕ). Err (Segments n)) many)
       (outcome_by (refuses 9 (length w.0.closed))
       (room_9 w.0 (length records) (length segments / width) (omega (arith, l, places)) (omega (arith, h, many))) refl refl refl)
 
@@ -114,7 +117,7 @@ module _ (said : Said Gathered) (walk : Walk) (counted : answers walk ≡ number
 module _ (said : Said Gathered) (records records' segments segments' : List ℕ) (r : Result Walk Refusal)
     (on : GoesOn (record { records = 0; segments = 0 }) nothing said records records' segments segments' r) where
   -- its refusal is the call's, and it has changed nothing
-  pub counting_refused : (why : Numbers) → r ≡ Err why → Demuxes said records records' segments segments' (Err why)
+  pub counting_refused : (why : Refusal) → r ≡ Err why → Demuxes said records records' segments segments' (Err why)
   counting_refused why is =
       let to : said ≡ refusal why = stands_refused said (ap result_says (sym is) ∙ on.answer_is) in
       let kept = on.untouched refl refl in
@@ -131,7 +134,7 @@ module _ (said : Said Gathered) (records records' segments segments' : List ℕ)
 -- what comes of the admission
 module _ (f : List ℕ) (records segments : List ℕ) where
   -- a refusal is passed on
-  pub not_taken : (why : Numbers) → refusal why ≡ ds2_admission f Qp7
+  pub not_taken : (why : Refusal) → refusal (numbers_of why) ≡ ds2_admission f Qp7
       → Demuxes (qp7_reading f) records records segments segments (Err why)
   unfolding qp7_reading
   not_taken why e = rw (← e) (passed_on why records segments)
@@ -167,11 +170,6 @@ accepted_read {reading} {records} {records'} {segments} {segments'} {answer} d t
       w.1 ∙ sym entries.1,
     )
 
--- an answer is read back from what it says
-demuxed_back : (x : Result Totals Refusal) → read_from Ok Err (result_says x) ≡ x
-demuxed_back (Ok totals) = refl
-demuxed_back (Err why) = refl
-
 -- what is seen of an outcome
 abbrev pub Seen : Type 0
 Seen = Result Totals Refusal × List ℕ × List ℕ
@@ -180,4 +178,4 @@ Seen = Result Totals Refusal × List ℕ × List ℕ
 pub only_outcome : {reading : Said Gathered} {records records₁ records₂ segments segments₁ segments₂ : List ℕ} {one other : Result Totals Refusal}
     → Demuxes reading records records₁ segments segments₁ one → Demuxes reading records records₂ segments segments₂ other
     → ◌≡◌ {A = Seen} (one, records₁, segments₁) (other, records₂, segments₂)
-only_outcome d e = only_outcome_of result_says (read_from Ok Err) demuxed_back d.answer_is e.answer_is d.records_are e.records_are d.segments_are e.segments_are
+only_outcome d e = only_result_with d.answer_is e.answer_is d.records_are e.records_are d.segments_are e.segments_are

@@ -15,10 +15,9 @@ use Rattle.blocks.specs.Headers.{Bytes, announced_in}
 use Rattle.blocks.proofs.Headers.{announced_none}
 use Rattle.refusals.specs.declared.Numbers.{Numbers}
 use Rattle.refusals.specs.Said.{Said, answers, refuses, refusal, result_says}
-use Rattle.refusals.proofs.Said.{not_both, passed, by_demand, only_one, read_from}
+use Rattle.refusals.proofs.Said.{not_both, passed, by_demand}
 use Rattle.sp.specs.Readings.{Reading}
 use Rattle.sp.specs.Outcome.{room_in}
-use Rattle.sp.proofs.Outcome.{demuxed_back}
 use Rattle.reader.specs.declared.Reader.{Reader}
 use Rattle.reader.specs.declared.Step.{Step}
 use Rattle.reader.specs.State.{State, start_of, blocks_in, fits_by, owed, reader_of, header_full, header_done, Sound, Reached}
@@ -27,6 +26,7 @@ use Rattle.reader.specs.History.{EndCall}
 use Rattle.reader.proofs.Parts.{Part, part_over}
 use Rattle.std.specs.Prelude.{Result, Ok, Err}
 use Rattle.refusals.specs.declared.Refusal.{Refusal}
+use Rattle.refusals.proofs.Results.{only_result}
 
 -- what a contract says of every state that a reader may stand for, said of one
 pub at_state : {reader : Reader} {P : State → Type 0} (known : Reached reader) → ((s : State) → reader ≡ reader_of s → Sound s → P s)
@@ -70,7 +70,7 @@ pub only_step : {said : Said ℕ} {next : State} {step step' : Step} → Steps s
 unfolding step_of
 only_step {said} {next} {step} {step'} v w =
     let answer : step.answer ≡ step'.answer =
-    only_one result_says (read_from Ok Err) demuxed_back step.answer step'.answer said v.answer_is w.answer_is in
+    only_result step.answer step'.answer said v.answer_is w.answer_is in
     ap₂ step_of answer (v.reader_is ∙ sym w.reader_is)
 
 pub only_outcome : {reading : Reading} {k : ℕ} {said : Said ℕ} {next : State} {step step' : Step} {out out' out'' counts counts' counts'' : List ℕ}

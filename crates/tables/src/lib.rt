@@ -15,3 +15,19 @@ pub fn copy(list: &mut [u8], to: usize, source: &[u8], at: usize, n: usize)
     }
     list[to..to + n].copy_from_slice(&source[at..at + n]);
 }
+
+// For the crates above. Makes n bytes of a list zero, from a place on.
+pub fn clear(list: &mut [u8], from: usize, n: usize)
+    requires { from + n ≤ length list.old }
+    ensures { Leaves list.old from n (λ i. 0) list.new }
+{
+    list[from..from + n].fill(0);
+}
+
+// For the crates above. Moves n bytes of a list from `by` places on to its front.
+pub fn move_up(list: &mut [u8], by: usize, n: usize)
+    requires { by + n ≤ length list.old }
+    ensures { Leaves list.old 0 n (λ i. get_or list.old (by + i) 0) list.new }
+{
+    list.copy_within(by..by + n, 0);
+}

@@ -108,7 +108,7 @@ tallying_goes_on {f} {rec} {walk = walk} {walk'} {b} {bytes} t next read is =
         (ap (λ (w : Walk). w.place.0) t.so.stands) (ap (λ (w : Walk). w.place.0) next.stands) is
 
 -- a block that is refused
-pub told_why : (f : List ℕ) (rec : Recording) (came : Result Walk Refusal) (why : Numbers) → came ≡ Err why
+pub told_why : (f : List ℕ) (rec : Recording) (came : Result Walk Refusal) (why : Refusal) → came ≡ Err why
     → result_says came ≡ numbers_at (gathered_from f rec) → result_says (Err why) ≡ handed_by Ds2Qp7 f rec
 told_why f rec came why is says =
     sym

@@ -13,7 +13,7 @@ use Rattle.blocks.specs.Headers.{Bytes}
 use Rattle.refusals.specs.declared.Numbers.{Numbers}
 use Rattle.refusals.specs.Numbers.{OfRecord}
 use Rattle.refusals.specs.Said.{answers, refusal, refuses, is_among, Numbered, result_says}
-use Rattle.refusals.proofs.Said.{not_both, by_onward, went_on, for_the_answer, only_one, read_from}
+use Rattle.refusals.proofs.Said.{not_both, by_onward, went_on, for_the_answer}
 use Rattle.refusals.proofs.Numbered.{not_of_record}
 use Rattle.magic.specs.declared.Magic.TheVariants.{Other}
 use Rattle.magic.specs.Magics.{names_dss, magic_of}
@@ -47,6 +47,7 @@ use Rattle.tally.proofs.tally.Kinds as tally
 use Rattle.tally.proofs.tally.Reads as tally-reads
 use Rattle.std.specs.Prelude.{Result, Ok, Err}
 use Rattle.refusals.specs.declared.Refusal.{Refusal}
+use Rattle.refusals.proofs.Results.{only_result}
 
 -- The tally says of every file what the whole reading of its kind hands out, and refuses exactly as that reading does.
 pub tally_is_the_reading : (f : List ℕ) → tallied_out f ≡ whole_out (kind_for f) f
@@ -164,12 +165,7 @@ tally_lacks f bytes why e of-record =
 pub refused_by : (f : List ℕ) → Numbered tally_refusals (tallied f)
 refused_by f = tallying f
 
--- an answer is read back from what it says
-tallied_back : (x : Result Figures Refusal) → read_from Ok Err (result_says x) ≡ x
-tallied_back (Ok figures) = refl
-tallied_back (Err why) = refl
-
 -- Two outcomes of `tally` that its contract allows for the same arguments are equal. The contract is the one in the source, as the check
 -- reads it.
 pub tally_settled : SettledResult 1 tally.ps tally.r tally-reads.Post
-tally_settled κs a x y s t p q = only_one result_says (read_from Ok Err) tallied_back x y _ p q
+tally_settled κs a x y s t p q = only_result x y _ p q

@@ -23,6 +23,7 @@ use Rattle.writing.specs.Outcome.{sound_in, size_of, written_size, out_after, Wr
 use Rattle.writing.specs.Inner.{Ready}
 use Rattle.std.specs.Prelude.{Result, Ok, Err}
 use Rattle.refusals.specs.declared.Refusal.{Refusal}
+use Rattle.refusals.specs.declared.Refusal.TheVariants.{Packet, Room, Supplied, TooLong}
 
 -- where packets are first not sound
 sound_leads : (packets : List ℕ) → Leads (λ k. eqb (byte_in packets k 40) 0) (many_in packets) (sound_in packets)
@@ -61,7 +62,7 @@ module _ (header packets out : List ℕ) where
   as_said is said after =
       record { answer_is = is ∙ said; out_is = after ∙ ap (λ (s : Said ℕ). out_after s header packets out) said }
 
-  pub refused_15 : is_header header ≡ false → Writes header packets out out (Err (numbered 15 0))
+  pub refused_15 : is_header header ≡ false → Writes header packets out out (Err Supplied)
   unfolding written_size
   refused_15 h = as_said refl said refl
     where
@@ -69,7 +70,7 @@ module _ (header packets out : List ℕ) where
       said = simp h
 
   module _ (good : is_header header ≡ true) (many : ℕ) (is : many ≡ sound_in packets) where
-    pub refused_16 : (42 * many ≡ length packets → ⊥) → Writes header packets out out (Err (numbered 16 many))
+    pub refused_16 : (42 * many ≡ length packets → ⊥) → Writes header packets out out (Err (Packet many))
     unfolding written_size
     refused_16 other = as_said refl said refl
       where
@@ -84,7 +85,7 @@ module _ (header packets out : List ℕ) where
       size_is : 1536 + 512 * ((reach false many + 505) / 506) ≡ size_of packets
       size_is = ap (λ (n : ℕ). 1536 + 512 * ((reach false n + 505) / 506)) many_is
 
-      pub refused_17 : 6470444 < many → Writes header packets out out (Err (numbered 17 limit))
+      pub refused_17 : 6470444 < many → Writes header packets out out (Err (TooLong limit))
       unfolding written_size
       refused_17 over = as_said refl said refl
         where
@@ -92,7 +93,7 @@ module _ (header packets out : List ℕ) where
           said = rw (← is) (simp (good, eq-eqb (42 * many) (length packets) all, lt-leb (size_of packets) limit (omega (arith, size_is))))
 
       module _ (few : many ≤ 6470444) (size : ℕ) (so : size ≡ 1536 + 512 * ((reach false many + 505) / 506)) where
-        pub refused_8 : length out < size → Writes header packets out out (Err (numbered 8 size))
+        pub refused_8 : length out < size → Writes header packets out out (Err (Room size))
         unfolding written_size
         refused_8 less = as_said refl said refl
           where

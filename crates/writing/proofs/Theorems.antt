@@ -20,7 +20,7 @@ use Rattle.magic.specs.Magics.{magic_of}
 use Rattle.detect.specs.Kinds.{format_type}
 use Rattle.refusals.specs.declared.Numbers.{Numbers}
 use Rattle.refusals.specs.Said.{Said, answers, refusal, result_says}
-use Rattle.refusals.proofs.Said.{for_the_answer, passed, only_one, read_from}
+use Rattle.refusals.proofs.Said.{for_the_answer, passed}
 use Rattle.packets.specs.Packet.{read_size}
 use Rattle.packets.specs.Walk.{parity}
 use Rattle.sp.specs.Readings.{Reading, total, packet_at, joined_byte_at, ds2_reading}
@@ -43,6 +43,7 @@ use Rattle.writing.proofs.write_ds2_sp.Kinds as writes
 use Rattle.writing.proofs.write_ds2_sp.Reads as writes_reads
 use Rattle.std.specs.Prelude.{Result, Ok, Err}
 use Rattle.refusals.specs.declared.Refusal.{Refusal}
+use Rattle.refusals.proofs.Results.{only_result}
 
 -- what an answer rests on: the header, sound packets and no other bytes, the limit, and the room
 pub record Accepted (header packets : List ℕ) (room size : ℕ) : Type 0 where
@@ -219,15 +220,10 @@ module _ (header packets out out' : List ℕ) (answer : Result ℕ Refusal) (w :
             (λ j h. get_or-take (length packets) o' j 0 (omega (arith, long)) ∙ leaves_at stands.packets_are j h)
             ∙ back.joined
 
--- two answers that say the same are the same
-written_back : (x : Result ℕ Refusal) → read_from Ok Err (result_says x) ≡ x
-written_back (Ok size) = refl
-written_back (Err why) = refl
-
 pub only_outcome : {header packets out out₁ out₂ : List ℕ} {one other : Result ℕ Refusal} → Writes header packets out out₁ one
     → Writes header packets out out₂ other → ◌≡◌ {A = Result ℕ Refusal × List ℕ} (one, out₁) (other, out₂)
 only_outcome {one = one} {other = other} p q =
-    let answer : one ≡ other = only_one result_says (read_from Ok Err) written_back one other _ p.answer_is q.answer_is in
+    let answer : one ≡ other = only_result one other _ p.answer_is q.answer_is in
     let lent = p.out_is ∙ sym q.out_is in
     (λ i. (answer i, lent i))
 

@@ -13,4 +13,4 @@ swap_flag-first-requires c =
 
 pub returns : goal.returns
 returns c =
-    packet_written _ _ _ _ _ _ _ c.swap_flag-first.ensures c.reach-place.ensures c.parity-swap.ensures c.carried_to-carry.ensures c.write_run.ensures
+    packet_written _ _ _ _ _ _ _ c.swap_flag-first.ensures c.reach.ensures c.parity.ensures c.carried_to-carry.ensures c.write_run.ensures

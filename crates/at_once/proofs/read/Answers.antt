@@ -7,11 +7,11 @@ use Rattle.at_once.proofs.read.Goals as goal
 
 pub returns-then-total-number : goal.returns-then-total-number
 returns-then-total-number c =
-    rw c.beyond.ensures (beyond _ _ _ _ _ _ c.announced-total.ensures.0 c.if-total-number.true)
+    beyond _ _ _ _ _ _ c.announced-total.ensures.0 c.if-total-number.true
 
 pub returns-then-not-has_room : goal.returns-then-not-has_room
 returns-then-not-has_room c =
-    rw c.room.ensures
+    
     (packet_no_room _ _ _ _ _ (omega (arith, c.if-total-number.false, c.announced-total.ensures.0)) (sym c.has_room.ensures ∙ c.if-not-has_room.true))
 
 pub returns : goal.returns

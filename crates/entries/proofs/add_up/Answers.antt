@@ -9,4 +9,4 @@ loop-block-init c = before_all _ _ _
 pub loop-block-preserved : goal.loop-block-preserved
 loop-block-preserved c =
     let l = c.loop-block in
-    before_next _ _ _ l.block l.entries l.packets c.count_byte-count.result c.lesser-entries.result c.loop-block-test.true c.count_byte-count.ensures c.lesser-entries.ensures l.invariant
+    before_next _ _ _ l.block l.entries l.packets c.count_byte-count.result c.min-entries.result c.loop-block-test.true c.count_byte-count.ensures c.min-entries.ensures l.invariant

@@ -19,4 +19,4 @@ put_entry-requires c =
 pub loop-block-preserved : goal.loop-block-preserved
 loop-block-preserved c =
     let l = c.loop-block in
-    laid_next _ _ _ _ _ l.block l.at l.first _ l.out c.loop-block-test.true c.count_byte-count.ensures l.invariant c.if-count-eq0.false _ _ c.entry_of-entry.ensures c.put_entry.ensures
+    laid_next _ _ _ _ _ l.block l.at l.first _ l.out c.loop-block-test.true c.count_byte-count.ensures l.invariant c.if-count-eq0.false _ _ c.entry_of.ensures c.put_entry.ensures

@@ -6,7 +6,5 @@ use Rattle.entries.proofs.put_entries.Given as goal
 
 abbrev pub invariant-loop-block : goal.invariant-loop-block
 invariant-loop-block l =
-    LaidUpto l.file l.start.0 l.blocks l.initial.out l.front l.block l.at l.first l.out
+    LaidUpto l.file l.recording.start.0 l.recording.blocks l.initial.out l.front l.block l.at l.first l.out
 
-abbrev pub decreases-loop-block : goal.decreases-loop-block
-decreases-loop-block l = l.blocks - l.block

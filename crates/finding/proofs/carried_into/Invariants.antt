@@ -9,5 +9,3 @@ abbrev pub invariant-loop-before : goal.invariant-loop-before
 invariant-loop-before l =
     (l.before ≤ l.block) × (carried_into l.file l.recording l.before ≡ carried_into l.file l.recording l.block)
 
-abbrev pub decreases-loop-before : goal.decreases-loop-before
-decreases-loop-before l = l.before

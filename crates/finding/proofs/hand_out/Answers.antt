@@ -7,4 +7,4 @@ use Rattle.finding.proofs.hand_out.Goals as goal
 
 pub returns : goal.returns
 returns c =
-    alone_written _ _ _ _ _ _ _ _ (worked_out _ _ _ _ c.requires.has refl c.swap_flag-flag.ensures (ap (λ (m : ℕ). c.args.entry.place.0 + m) c.reach.ensures) c.parity-swap.ensures c.carried_to-carry.ensures) c.write_run.ensures
+    alone_written _ _ _ _ _ _ _ _ (worked_out _ _ _ _ c.requires.has refl c.swap_flag-flag.ensures (ap (λ (m : ℕ). c.args.entry.place.0 + m) c.reach.ensures) c.parity.ensures c.carried_to-carry.ensures) c.write_run.ensures

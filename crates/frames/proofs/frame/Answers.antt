@@ -23,4 +23,4 @@ returns-then-from-far c =
 pub returns : goal.returns
 returns c =
     let a = c.args in
-    rw c.lesser.ensures (sym (frame_found a.start.0 a.long a.k (omega arith) (omega arith)))
+    rw c.min.ensures (sym (frame_found a.start.0 a.long a.k (omega arith) (omega arith)))

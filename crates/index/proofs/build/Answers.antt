@@ -7,9 +7,9 @@ use Rattle.index.proofs.build.Goals as goal
 pub returns-then-out-bytes : goal.returns-then-out-bytes
 returns-then-out-bytes c =
     let a = c.args in
-    rw c.room.ensures (no_room (contents_in a.file.now a.recording) _ _ c.add_up-totals.ensures.entries.0 c.if-out-bytes.true)
+    (no_room (contents_in a.file.now a.recording) _ _ c.add_up-entries.ensures.entries.0 c.if-out-bytes.true)
 
 pub returns : goal.returns
 returns c =
     let a = c.args in
-    with_room (contents_in a.file.now a.recording) _ _ c.add_up-totals.ensures.entries.0 _ _ c.if-out-bytes.false c.put_front.ensures c.put_entries.ensures
+    with_room (contents_in a.file.now a.recording) _ _ c.add_up-entries.ensures.entries.0 _ _ c.if-out-bytes.false c.put_front.ensures c.put_entries.ensures

@@ -13,14 +13,12 @@ bounds-index-4 c = omega (arith, (framed_says _ (sym c.is_framed.ensures ∙ c.i
 pub returns-then-wrong-totals : goal.returns-then-wrong-totals
 returns-then-wrong-totals c =
     let a = c.args in
-    rw c.index_entry.ensures
     (entry_wrong a.index.now (contents_in a.file.now a.recording) (sym c.is_framed.ensures ∙ c.if-not-is_framed.false) c.if-version-ne-VERSION.false _ c.first_wrong-wrong.ensures
     (omega (arith, c.if-wrong-totals.true, c.add_up-totals.ensures.entries.0)))
 
 pub returns-then-index-totals : goal.returns-then-index-totals
 returns-then-index-totals c =
     let a = c.args in
-    rw c.index_entry-then-index-totals.ensures
     (too_long a.index.now (contents_in a.file.now a.recording) (sym c.is_framed.ensures ∙ c.if-not-is_framed.false) c.if-version-ne-VERSION.false _ c.first_wrong-wrong.ensures
     (λ e. c.if-index-totals.true (omega (arith, e, c.add_up-totals.ensures.entries.0))))
 

@@ -8,5 +8,3 @@ use Rattle.writing.proofs.lay.Given as goal
 abbrev pub invariant-loop-k : goal.invariant-loop-k
 invariant-loop-k l = (l.k ≤ l.many) × Holds l.initial.out l.header (part_laid l.many (byte_in l.packets) l.k) l.out
 
-abbrev pub decreases-loop-k : goal.decreases-loop-k
-decreases-loop-k l = l.many - l.k

@@ -8,5 +8,3 @@ use Rattle.writing.proofs.sound_in.Given as goal
 abbrev pub invariant-loop-k : goal.invariant-loop-k
 invariant-loop-k l = (l.k ≤ l.many) × ((l.many ≡ many_in l.packets) × ((j : ℕ) → j < l.k → byte_in l.packets j 40 ≡ 0))
 
-abbrev pub decreases-loop-k : goal.decreases-loop-k
-decreases-loop-k l = l.many - l.k

@@ -8,19 +8,19 @@ use Rattle.writing.proofs.write_ds2_sp.Goals as goal
 
 pub returns-then-not-is_header : goal.returns-then-not-is_header
 returns-then-not-is_header c =
-    rw c.supplied.ensures (refused_15 _ _ _ (sym c.is_header.ensures ∙ c.if-not-is_header.true))
+    (refused_15 _ _ _ (sym c.is_header.ensures ∙ c.if-not-is_header.true))
 
 pub returns-then-many-packets : goal.returns-then-many-packets
 returns-then-many-packets c =
-    rw c.packet.ensures (refused_16 _ _ _ (sym c.is_header.ensures ∙ c.if-not-is_header.false) _ c.sound_in-many.ensures.0 c.if-many-packets.true)
+    (refused_16 _ _ _ (sym c.is_header.ensures ∙ c.if-not-is_header.false) _ c.sound_in-many.ensures.0 c.if-many-packets.true)
 
 pub returns-then-many-gt-MOST : goal.returns-then-many-gt-MOST
 returns-then-many-gt-MOST c =
-    rw c.too_long.ensures (refused_17 _ _ _ (sym c.is_header.ensures ∙ c.if-not-is_header.false) _ c.sound_in-many.ensures.0 c.if-many-packets.false c.if-many-gt-MOST.true)
+    (refused_17 _ _ _ (sym c.is_header.ensures ∙ c.if-not-is_header.false) _ c.sound_in-many.ensures.0 c.if-many-packets.false c.if-many-gt-MOST.true)
 
 pub returns-then-out-size : goal.returns-then-out-size
 returns-then-out-size c =
-    rw c.room.ensures (refused_8 _ _ _ (sym c.is_header.ensures ∙ c.if-not-is_header.false) _ c.sound_in-many.ensures.0 c.if-many-packets.false (search rules) _ (search rules) c.if-out-size.true)
+    (refused_8 _ _ _ (sym c.is_header.ensures ∙ c.if-not-is_header.false) _ c.sound_in-many.ensures.0 c.if-many-packets.false (search rules) _ (search rules) c.if-out-size.true)
 
 pub lay-requires : goal.lay-requires
 lay-requires c =
