@@ -24,7 +24,7 @@ use Rattle.whole.proofs.Admissions.{sound}
 use Rattle.frames.specs.declared.Fetched.{Fetched}
 use Rattle.std.specs.Prelude.{Result, Ok, Err}
 use Rattle.refusals.specs.declared.Refusal.{Refusal}
-use Rattle.refusals.specs.Numbers.{numbers_of}
+use Rattle.refusals.specs.Numbers.{in_numbers}
 use Rattle.frames.specs.Fetch.{can_fetch, fetch_from, is_inside, in_file, in_scratch, stand_in, standing, fetched_says, filled_from, filled, shown_from, shown, Fills}
 use Rattle.frames.specs.Inner.{Fetchable}
 use Rattle.tables.proofs.Cases.{by_test}
@@ -122,7 +122,7 @@ module _ (f : List ℕ) (q size room : ℕ) where
 
 -- what the two calls do with a scratch
 module _ (f : List ℕ) (q size : ℕ) (scratch : List ℕ) where
-  pub fill_refused : (why : Refusal) → refusal (numbers_of why) ≡ fetch_from f q size (length scratch)
+  pub fill_refused : (why : Refusal) → refusal (in_numbers why) ≡ fetch_from f q size (length scratch)
       → Fills f q size scratch scratch (Err why)
   unfolding filled
   fill_refused why e = record { answer_is = stand_refused f q size (length scratch) e; scratch_is = rw (← e) }

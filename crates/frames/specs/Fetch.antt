@@ -4,7 +4,7 @@ use Rattle.std.specs.Prelude.{ℕ, ◌+◌, ◌*◌, ◌%◌, ◌≡◌, List, [
 use Rattle.tables.specs.Lent.{over}
 use Rattle.blocks.specs.Places.{file_of}
 use Rattle.refusals.specs.declared.Refusal.{Refusal}
-use Rattle.refusals.specs.Numbers.{numbers_of}
+use Rattle.refusals.specs.Numbers.{in_numbers}
 use Rattle.refusals.specs.Said.{Said, answers, refusal, demand, onward}
 use Rattle.whole.specs.declared.Recording.{Recording}
 use Rattle.whole.specs.Admissions.{admission, stream_in}
@@ -43,7 +43,7 @@ stand_of InScratch = in_scratch
 
 abbrev pub fetched_says : Result Fetched Refusal → Said Stand
 fetched_says (Ok fetched) = answers (stand_of fetched)
-fetched_says (Err why) = refusal (numbers_of why)
+fetched_says (Err why) = refusal (in_numbers why)
 
 -- the scratch after the first call: its start holds the frame if that crosses a block, and nothing else is changed
 abbrev pub filled_from : List ℕ → Recording → ℕ → ℕ → List ℕ → List ℕ

@@ -25,7 +25,7 @@ use Rattle.index.specs.declared.Size.{Size}
 use Rattle.index.specs.Outcome.{in_room, Builds}
 use Rattle.std.specs.Prelude.{Result, Ok, Err}
 use Rattle.refusals.specs.declared.Refusal.{Refusal}
-use Rattle.refusals.specs.Numbers.{numbers_of}
+use Rattle.refusals.specs.Numbers.{in_numbers}
 use Rattle.refusals.specs.declared.Refusal.TheVariants.{Room}
 
 -- the front: the length, and the version
@@ -60,7 +60,7 @@ module _ (c : Contents) (out : List ℕ) (entries : ℕ) (is : entries ≡ lengt
 
 -- what was admitted: a refusal is passed on, and of a recording the index is built
 module _ (f out : List ℕ) where
-  pub not_taken : (why : Refusal) → refusal (numbers_of why) ≡ admission f true false → Builds (contents_of f) out out (Err why)
+  pub not_taken : (why : Refusal) → refusal (in_numbers why) ≡ admission f true false → Builds (contents_of f) out out (Err why)
   unfolding contents_of in_room
   not_taken why e = rw (← e) (record { answer_is = refl; out_is = refl })
 

@@ -199,7 +199,7 @@ fn seam(file: &[u8], a: FilePlace, blocks: usize, q: StreamPlace) -> [u8; 42]
         return window;
     }
     let here = blocks::in_file(a, q);
-    let n = 42.min(PAYLOAD - at % PAYLOAD);
+    let n = PACKET.min(PAYLOAD - at % PAYLOAD);
     tables::copy(&mut window, 0, file, here.0, n);
     let next = block + 1;
     if blocks <= next {

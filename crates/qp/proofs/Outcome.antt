@@ -25,7 +25,7 @@ use Rattle.qp.specs.Outcome.{width, entry_of, words, in_room, in_table, totals_o
 use Rattle.qp.specs.Inner.{Holds}
 use Rattle.std.specs.Prelude.{Result, Ok, Err}
 use Rattle.refusals.specs.declared.Refusal.{Refusal}
-use Rattle.refusals.specs.Numbers.{numbers_of}
+use Rattle.refusals.specs.Numbers.{in_numbers}
 use Rattle.refusals.specs.declared.Refusal.TheVariants.{Segments}
 use Rattle.refusals.proofs.Results.{only_result}
 
@@ -70,7 +70,7 @@ module _ (f : List ℕ) (rec : Recording) (room written needed : ℕ) (is : need
 
 -- what was admitted: a refusal is passed on, and a recording goes on to be read
 module _ (f : List ℕ) (table : List ℕ) where
-  pub not_taken : (why : Refusal) → refusal (numbers_of why) ≡ ds2_admission f Qp
+  pub not_taken : (why : Refusal) → refusal (in_numbers why) ≡ ds2_admission f Qp
       → Demuxes (qp_reading f) table table (Err why)
   unfolding qp_reading in_room
   not_taken why e = rw (← e) (record { answer_is = refl; table_is = refl })

@@ -75,12 +75,12 @@ fn close(gathering: Gathering, end: usize, most: usize, table: &mut [u32]) -> us
     if gathering.frames == 0 {
         return number;
     }
-    let stop = end.min(gathering.place.0);
+    let stop = gathering.place.0.min(end);
     let segment = Segment {
         start: gathering.start,
         long: stop - gathering.start.0,
         frames: gathering.frames,
-        reset: number.min(1),
+        reset: 1usize.min(number),
     };
     put(segment, number, most, table);
     number + 1
@@ -187,6 +187,7 @@ fn read(file: &[u8], recording: Recording, table: &mut [u32]) -> Result<Totals, 
 
 // The segments of a QP file, or a refusal that changes nothing. That a lent file is a list of bytes is the language's own fact; the contract
 // passes it on, since where segments lie rests on it.
+#[tactic(auto, unfolding(crate::specs::Segments::qp_reading, crate::specs::Outcome::in_room))]
 pub fn demux_ds2_qp(file: &[u8], table: &mut [u32]) -> Result<Totals, Refusal>
     ensures outcome { Demuxes (qp_reading file.now) table.old table.new result }
     ensures bytes { Bytes file.now }

@@ -8,6 +8,7 @@ use native.Mathlib.Omega.{arith}
 use Rattle.tables.specs.Inner.{Fronts}
 use Rattle.tables.proofs.Cases.{by_order}
 use Rattle.refusals.specs.declared.Numbers.{Numbers}
+use Rattle.refusals.specs.Numbers.{in_numbers}
 use Rattle.refusals.specs.Said.{Said, answers, refusal, onward, result_says}
 use Rattle.refusals.proofs.Said.{not_both, went_on, for_the_answer}
 use Rattle.whole.specs.declared.Recording.{Recording}
@@ -114,10 +115,10 @@ module _ (f : List ℕ) (rec : Recording) (most : Totals) (records segments : Li
 
       -- a block that is refused
       pub gathering_stops : (why : Refusal) → came ≡ Err why → b < rec.blocks
-          → GoesOn most nothing (gathered_from f rec) records records'' segments segments'' came
+          → GoesOn most nothing (gathered_from f rec) records records'' segments segments'' (Err why)
       gathering_stops why is h =
           record {
-            answer_is = ap result_says is ∙ sym (ap numbers_at to);
+            answer_is = sym (ap numbers_at to);
             records_written = λ d g' e w. absurd (not_both (sym to ∙ e));
             segments_written = λ d g' e w. absurd (not_both (sym to ∙ e));
             untouched = λ p q. ((step.untouched p q).0 ∙ (so.untouched p q).0, (step.untouched p q).1 ∙ (so.untouched p q).1);
@@ -126,13 +127,13 @@ module _ (f : List ℕ) (rec : Recording) (most : Totals) (records segments : Li
           step : GoesOn most so.here (gone_on f rec b so.here) records' records'' segments' segments'' came
           step = on so.here so.stands
 
-          refused : up_to f rec (b + 1) ≡ refusal why
+          refused : up_to f rec (b + 1) ≡ refusal (in_numbers why)
           refused = next_is ∙ stands_refused (gone_on f rec b so.here) (ap result_says (sym is) ∙ step.answer_is)
 
-          all : up_to f rec rec.blocks ≡ refusal why
+          all : up_to f rec rec.blocks ≡ refusal (in_numbers why)
           all = gathered_stays f rec.start.0 rec.blocks (b + 1) rec.blocks (omega arith) refused
 
-          to : gathered_from f rec ≡ refusal why
+          to : gathered_from f rec ≡ refusal (in_numbers why)
           to = gathered_from_lem f rec ∙ ap (λ (said : Said Gathered). onward said (λ g. answers (closing g))) all
 
     -- all blocks, and the last segment closed

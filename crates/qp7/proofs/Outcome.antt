@@ -24,7 +24,7 @@ use Rattle.qp7.specs.Inner.{numbers_at, GoesOn}
 use Rattle.qp7.proofs.Gathering.{stands_answered, stands_refused}
 use Rattle.std.specs.Prelude.{Result, Ok, Err}
 use Rattle.refusals.specs.declared.Refusal.{Refusal}
-use Rattle.refusals.specs.Numbers.{numbers_of}
+use Rattle.refusals.specs.Numbers.{in_numbers}
 use Rattle.refusals.specs.declared.Refusal.TheVariants.{Room, Segments}
 use Rattle.refusals.proofs.Results.{only_result_with}
 
@@ -34,7 +34,7 @@ segment_words_lem g = in_turn_long entry_of width (λ x. refl) g.closed
 
 -- a refusal is passed on
 passed_on : (why : Refusal) (records segments : List ℕ)
-    → Demuxes (refusal (numbers_of why)) records records segments segments (Err why)
+    → Demuxes (refusal (in_numbers why)) records records segments segments (Err why)
 unfolding in_room
 passed_on why records segments = record { answer_is = refl; records_are = refl; segments_are = refl }
 
@@ -119,7 +119,7 @@ module _ (said : Said Gathered) (records records' segments segments' : List ℕ)
   -- its refusal is the call's, and it has changed nothing
   pub counting_refused : (why : Refusal) → r ≡ Err why → Demuxes said records records' segments segments' (Err why)
   counting_refused why is =
-      let to : said ≡ refusal why = stands_refused said (ap result_says (sym is) ∙ on.answer_is) in
+      let to : said ≡ refusal (in_numbers why) = stands_refused said (ap result_says (sym is) ∙ on.answer_is) in
       let kept = on.untouched refl refl in
       rw (to, kept.0, kept.1) (passed_on why records segments)
 
@@ -134,7 +134,7 @@ module _ (said : Said Gathered) (records records' segments segments' : List ℕ)
 -- what comes of the admission
 module _ (f : List ℕ) (records segments : List ℕ) where
   -- a refusal is passed on
-  pub not_taken : (why : Refusal) → refusal (numbers_of why) ≡ ds2_admission f Qp7
+  pub not_taken : (why : Refusal) → refusal (in_numbers why) ≡ ds2_admission f Qp7
       → Demuxes (qp7_reading f) records records segments segments (Err why)
   unfolding qp7_reading
   not_taken why e = rw (← e) (passed_on why records segments)

@@ -9,6 +9,8 @@ use lib.ListN.{length, length-append}
 use Rattle.tables.specs.Inner.{Puts}
 use Rattle.tables.proofs.Entries.{fronts_more}
 use Rattle.refusals.specs.declared.Numbers.{Numbers}
+use Rattle.refusals.specs.declared.Refusal.{Refusal}
+use Rattle.refusals.specs.Numbers.{in_numbers}
 use Rattle.refusals.specs.Said.{Said, answers, onward, refusal}
 use Rattle.refusals.proofs.Said.{not_both, went_on, for_the_answer}
 use Rattle.qp7.specs.declared.Walk.{Walk}
@@ -105,7 +107,7 @@ module _ (s : ℕ → ℕ) (long count most : ℕ) (g : Gathered) (records : Lis
         entry = subst (λ (q : ℕ). Puts records' (length at.records) most (q ∷ []) records'') (sym came.place_is) there
 
     -- a record that cannot be read
-    pub reading_stops : (why : Numbers) → k < count → refusal why ≡ record_at s long place
+    pub reading_stops : (why : Refusal) → k < count → refusal (in_numbers why) ≡ record_at s long place
         → ReadsOn s long count most g records records' (Err why)
     reading_stops why h refused =
         record {
@@ -114,7 +116,7 @@ module _ (s : ℕ → ℕ) (long count most : ℕ) (g : Gathered) (records : Lis
           untouched = came.untouched;
         }
       where
-        rest : reads s long count g ≡ refusal why
+        rest : reads s long count g ≡ refusal (in_numbers why)
         rest = next_is h ∙ ap (λ (said : Said ℕ). onward said (λ size. reads s long (count - (k + 1)) (noted size came.here))) (sym refused)
 
     -- all records are read

@@ -62,15 +62,3 @@ module _ (s : ℕ → ℕ) (long q : ℕ) where
       let is : size ≡ record_size (s (q + 1)) = cc in
       let inside : q + record_size (s (q + 1)) ≤ long = leb-true (q + record_size (s (q + 1))) long fits.0 in
       (is, omega (arith, is, inside))
-
--- why a record cannot be read, as the code asks it
-pub why_is : {said : Said ℕ} (found : Result ℕ Refusal) (why asked : Numbers) → found ≡ Err why → ((w : Numbers) → found ≡ Err w → asked ≡ w)
-    → result_says found ≡ said → refusal asked ≡ said
-why_is {said} found why asked is ask says = ap (λ (r : Numbers). refusal r) (ask why is) ∙ ap result_says (sym is) ∙ says
-
--- a record is refused for one reason, and one that is read for none
-pub same_why : (why other : Numbers) → ◌≡◌ {A = Result ℕ Refusal} (Err why) (Err other) → why ≡ other
-same_why why other e = cc
-
-pub not_refused : (size : ℕ) (why : Numbers) → ◌≡◌ {A = Result ℕ Refusal} (Ok size) (Err why) → ⊥
-not_refused size why e = not_both {a = size} (sym (ap result_says e))

@@ -149,7 +149,7 @@ fn close(walk: Walk, most: usize, segments: &mut [u32]) -> Walk
     let segment = Segment {
         first: walk.first,
         records: walk.records - walk.first,
-        reset: number.min(1),
+        reset: 1usize.min(number),
     };
     put(segment, number, most, segments);
     Walk {
@@ -263,6 +263,7 @@ fn read(
 }
 
 // The records and segments of a QP7 file, or a refusal that changes nothing.
+#[tactic(auto, unfolding(crate::specs::Walk::qp7_reading, crate::specs::Outcome::in_room))]
 pub fn demux_ds2_qp7(
     file: &[u8],
     records: &mut [u32],

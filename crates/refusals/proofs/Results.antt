@@ -5,7 +5,7 @@ use mathlib.Core.Path.{refl, ap, sym, ◌∙◌}
 use Rattle.refusals.specs.declared.Refusal.{Refusal}
 use Rattle.refusals.specs.declared.Refusal.TheVariants.{Magic, Limit, Header, Selector, Record, Ended, Overflow, Room, Segments, Kind, OtherKind, Absent, Inside, Owed, Supplied, Packet, TooLong, Beyond, Index, IndexVersion, IndexEntry, Choice}
 use Rattle.refusals.specs.declared.Numbers.{Numbers}
-use Rattle.refusals.specs.Numbers.{numbers_of}
+use Rattle.refusals.specs.Numbers.{in_numbers}
 use Rattle.refusals.specs.Said.{Said, answers, refusal, result_says}
 use Rattle.refusals.proofs.Said.{only_one, only_outcome_of}
 
@@ -35,7 +35,7 @@ refusal_from why =
     (cond (eqb why.number 21) (IndexEntry why.beside)
     Choice))))))))))))))))))))
 
-pub refusal_back : (why : Refusal) → refusal_from (numbers_of why) ≡ why
+pub refusal_back : (why : Refusal) → refusal_from (in_numbers why) ≡ why
 refusal_back Magic = refl
 refusal_back (Limit limit) = refl
 refusal_back (Header start) = refl
@@ -68,7 +68,7 @@ pub result_back : {A : Type 0} (x : Result A Refusal) → result_from (result_sa
 result_back (Ok a) = refl
 result_back (Err why) = ap (λ (w : Refusal). Err w) (refusal_back why)
 
-pub same_refusal : (one other : Refusal) → numbers_of one ≡ numbers_of other → one ≡ other
+pub same_refusal : (one other : Refusal) → in_numbers one ≡ in_numbers other → one ≡ other
 same_refusal one other e = sym (refusal_back one) ∙ ap refusal_from e ∙ refusal_back other
 
 pub only_result : {A : Type 0} (x y : Result A Refusal) (said : Said A) → result_says x ≡ said → result_says y ≡ said → x ≡ y

@@ -12,29 +12,29 @@ abbrev pub numbered : ℕ → ℕ → Numbers
 numbered number beside = lacking number beside 0 0
 
 -- the numbers of each refusal
-abbrev pub numbers_of : Refusal → Numbers
-numbers_of Magic = numbered 1 0
-numbers_of (Limit limit) = numbered 2 limit
-numbers_of (Header start) = numbered 3 start.0
-numbers_of (Selector at absent) = lacking 4 at.0 0 absent
-numbers_of (Record at size absent) = lacking 5 at.0 size absent
-numbers_of Ended = numbered 6 0
-numbers_of (Overflow hold) = numbered 7 hold
-numbers_of (Room needed) = numbered 8 needed
-numbers_of (Segments needed) = numbered 9 needed
-numbers_of (Kind kind) = numbered 10 kind
-numbers_of (OtherKind byte) = numbered 11 byte
-numbers_of Absent = numbered 12 0
-numbers_of (Inside bytes) = numbered 13 bytes
-numbers_of (Owed frames) = numbered 14 frames
-numbers_of Supplied = numbered 15 0
-numbers_of (Packet number) = numbered 16 number
-numbers_of (TooLong limit) = numbered 17 limit
-numbers_of (Beyond total) = numbered 18 total
-numbers_of Index = numbered 19 0
-numbers_of (IndexVersion byte) = numbered 20 byte
-numbers_of (IndexEntry number) = numbered 21 number
-numbers_of Choice = numbered 22 0
+abbrev pub in_numbers : Refusal → Numbers
+in_numbers Magic = numbered 1 0
+in_numbers (Limit limit) = numbered 2 limit
+in_numbers (Header start) = numbered 3 start.0
+in_numbers (Selector at absent) = lacking 4 at.0 0 absent
+in_numbers (Record at size absent) = lacking 5 at.0 size absent
+in_numbers Ended = numbered 6 0
+in_numbers (Overflow hold) = numbered 7 hold
+in_numbers (Room needed) = numbered 8 needed
+in_numbers (Segments needed) = numbered 9 needed
+in_numbers (Kind kind) = numbered 10 kind
+in_numbers (OtherKind byte) = numbered 11 byte
+in_numbers Absent = numbered 12 0
+in_numbers (Inside bytes) = numbered 13 bytes
+in_numbers (Owed frames) = numbered 14 frames
+in_numbers Supplied = numbered 15 0
+in_numbers (Packet number) = numbered 16 number
+in_numbers (TooLong limit) = numbered 17 limit
+in_numbers (Beyond total) = numbered 18 total
+in_numbers Index = numbered 19 0
+in_numbers (IndexVersion byte) = numbered 20 byte
+in_numbers (IndexEntry number) = numbered 21 number
+in_numbers Choice = numbered 22 0
 
 -- by these a record is refused that cannot be read
 abbrev pub record_refusals : List ℕ

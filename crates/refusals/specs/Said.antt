@@ -3,7 +3,7 @@
 use Rattle.std.specs.Prelude.{ℕ, ◌≡◌, List, [], ◌∷◌, Bool, true, false, cond, eqb, Result, Ok, Err}
 use Rattle.refusals.specs.declared.Refusal.{Refusal}
 use Rattle.refusals.specs.declared.Numbers.{Numbers}
-use Rattle.refusals.specs.Numbers.{numbered, numbers_of, OnlyRecordsLack}
+use Rattle.refusals.specs.Numbers.{numbered, in_numbers, OnlyRecordsLack}
 
 pub data Said (A : Type 0) : Type 0 where
   answers : A → Said A
@@ -12,7 +12,7 @@ pub data Said (A : Type 0) : Type 0 where
 -- what the code's `Result` says: its value, or the numbers of its refusal
 abbrev pub result_says : {A : Type 0} → Result A Refusal → Said A
 result_says (Ok a) = answers a
-result_says (Err why) = refusal (numbers_of why)
+result_says (Err why) = refusal (in_numbers why)
 
 -- a refusal by its number and the number beside it
 abbrev pub refuses : {A : Type 0} → ℕ → ℕ → Said A

@@ -4,7 +4,7 @@
 #![tactic(auto)]
 
 ghost use Rattle.std.specs.Prelude.{◌≡◌};
-ghost use Rattle.refusals.specs.Numbers.{numbered, numbers_of};
+ghost use Rattle.refusals.specs.Numbers.{numbered, in_numbers};
 
 use blocks::{FilePlace, StreamPlace};
 
@@ -85,7 +85,7 @@ impl Numbers {
 }
 
 impl From<Refusal> for Numbers {
-    ghost from_gives = { λ why numbers. numbers ≡ numbers_of why };
+    ghost from_gives = { λ why numbers. numbers ≡ in_numbers why };
 
     fn from(why: Refusal) -> Self {
         match why {

@@ -10,7 +10,7 @@ use lib.Dec.{leb}
 use Rattle.tables.proofs.Lent.{leaves_over}
 use Rattle.refusals.specs.declared.Numbers.{Numbers}
 use Rattle.refusals.specs.declared.Refusal.TheVariants.{Room}
-use Rattle.refusals.specs.Numbers.{numbers_of}
+use Rattle.refusals.specs.Numbers.{in_numbers}
 use Rattle.refusals.specs.Said.{Said, answers, refusal, onward, result_says}
 use Rattle.refusals.proofs.Said.{went_on, asked_of}
 use Rattle.refusals.proofs.Results.{only_result_with}
@@ -25,7 +25,7 @@ use Rattle.std.specs.Prelude.{Result, Ok, Err}
 use Rattle.refusals.specs.declared.Refusal.{Refusal}
 
 -- a refusal is passed on
-pub passed_on : (why : Refusal) (out counts : List ℕ) → Demuxes (refusal (numbers_of why)) out out counts counts (Err why)
+pub passed_on : (why : Refusal) (out counts : List ℕ) → Demuxes (refusal (in_numbers why)) out out counts counts (Err why)
 unfolding in_room
 passed_on why out counts = record { answer_is = refl; out_is = refl; counts_are = refl }
 
@@ -61,7 +61,7 @@ is_ready f rec out counts needed readable is most h =
 
 -- what was said first: a refusal is passed on, and with a recording, or another answer, it goes on so
 module _ {A : Type 0} (said : Said A) (then : A → Said Reading) (out counts : List ℕ) where
-  pub not_taken : (why : Refusal) → refusal (numbers_of why) ≡ said → Demuxes (onward said then) out out counts counts (Err why)
+  pub not_taken : (why : Refusal) → refusal (in_numbers why) ≡ said → Demuxes (onward said then) out out counts counts (Err why)
   not_taken why e = rw (← e) (passed_on why out counts)
 
   pub taken : (a : A) (out' counts' : List ℕ) (answer : Result ℕ Refusal) → answers a ≡ said → Demuxes (then a) out out' counts counts' answer

@@ -18,9 +18,9 @@ fn of_open(gathering: Gathering, end: usize) -> HandedOut
     ensures counted { (g : Gathered) → gathering ≡ numbers_of g → result ≡ frames_out (open_segment end g ∷ []) }
     ensures few { (result.many ≤ gathering.frames) × (result.short ≤ gathering.frames) × (result.bytes ≤ 56 * gathering.frames) }
 {
-    let long = end.min(gathering.place.0) - gathering.start.0;
+    let long = gathering.place.0.min(end) - gathering.start.0;
     let whole = long / FRAME;
-    let short = (long % FRAME).min(1);
+    let short = 1usize.min(long % FRAME);
     HandedOut {
         many: whole + short,
         short,

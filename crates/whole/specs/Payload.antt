@@ -3,7 +3,7 @@
 use Rattle.std.specs.Prelude.{ℕ, ◌*◌, List, [], true, take, drop, ltb, Result, Ok, Err}
 use Rattle.blocks.specs.declared.FilePlace.{FilePlace}
 use Rattle.blocks.specs.Places.{file_of}
-use Rattle.refusals.specs.Numbers.{numbers_of}
+use Rattle.refusals.specs.Numbers.{in_numbers}
 use Rattle.refusals.specs.Said.{Said, answers, refusal, demand, onward}
 use Rattle.whole.specs.declared.Recording.{Recording}
 use Rattle.whole.specs.Admissions.{admission}
@@ -20,7 +20,7 @@ payload_place f block = onward (admission f true true) (λ rec. place_in rec blo
 -- the code's answer, read so
 abbrev pub payload_says : Result FilePlace Refusal → Said ℕ
 payload_says (Ok place) = answers place.0
-payload_says (Err why) = refusal (numbers_of why)
+payload_says (Err why) = refusal (in_numbers why)
 
 -- the 506 bytes from that place on; a refused call shows an empty part
 abbrev pub shown_at : List ℕ → Said ℕ → List ℕ

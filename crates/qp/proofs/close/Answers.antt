@@ -9,4 +9,4 @@ returns-then-gathering-eq0-clause-closes c = (λ g is. closes_none c.args.end c.
 
 pub returns-clause-closes : goal.returns-clause-closes
 returns-clause-closes c = (λ g is.
-    closes_some c.args.end c.args.most g c.args.gathering c.lesser-stop.result c.lesser.result _ _ is c.lesser-stop.ensures c.lesser.ensures (omega (arith, c.if-gathering-eq0.false)) c.put.ensures)
+    closes_some c.args.end c.args.most g c.args.gathering c.min-stop.result c.min.result _ _ is c.min-stop.ensures c.min.ensures (omega (arith, c.if-gathering-eq0.false)) c.put.ensures)

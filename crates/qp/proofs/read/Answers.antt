@@ -8,7 +8,6 @@ pub returns-then-room-needed : goal.returns-then-room-needed
 returns-then-room-needed c =
     let a = c.args in
     let e = c.write_segments-needed.ensures in
-    rw c.segments.ensures
     (no_room a.file.now a.recording _ _ _ e.many _ _ refl c.at_once-written.ensures.0 e.few e.written c.if-room-needed.true)
 
 pub returns : goal.returns

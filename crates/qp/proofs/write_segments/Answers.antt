@@ -15,7 +15,7 @@ pub add-gathering-requires : goal.add-gathering-requires
 add-gathering-requires c =
     let few = few_blocks _ c.args.recording c.requires.sound in
     let near = c.arrive-arrived.ensures.near _ _ c.loop-block.invariant.near in
-    let count = c.count_byte-count.ensures.1 in
+    let count = c.count_byte.ensures.1 in
     let below = c.loop-block-test.true in
     (omega (arith, near.place_is, near.start_in, near.frames_few, count, few, below), omega (arith, near.frames_few, count, few, below))
 
@@ -25,4 +25,4 @@ loop-block-preserved c =
     let a = c.args in
     let g = gathered_to a.file.now a.recording.start.0 a.recording.blocks l.block in
     let moves = c.arrive-arrived.ensures.moves g l.invariant.is in
-    blocks_go_on _ _ _ _ _ l.block _ _ l.gathering _ l.table _ c.arrive-arrived.result c.loop-block-test.true l.invariant c.block_start-at.ensures.0 c.count_byte-count.ensures.0 c.count_byte-count.ensures.1 moves (c.add-gathering.ensures.adds (moved (506 * a.recording.blocks) c.block_start-at.result.0 g) moves.gathering_is) (c.add-gathering.ensures.near _ _ _ (c.arrive-arrived.ensures.near _ _ l.invariant.near))
+    blocks_go_on _ _ _ _ _ l.block _ _ l.gathering _ l.table _ c.arrive-arrived.result c.loop-block-test.true l.invariant c.block_start-at.ensures.0 c.count_byte.ensures.0 c.count_byte.ensures.1 moves (c.add-gathering.ensures.adds (moved (506 * a.recording.blocks) c.block_start-at.result.0 g) moves.gathering_is) (c.add-gathering.ensures.near _ _ _ (c.arrive-arrived.ensures.near _ _ l.invariant.near))

@@ -6,7 +6,5 @@ use Rattle.qp.proofs.write_segments.Given as goal
 
 abbrev pub invariant-loop-block : goal.invariant-loop-block
 invariant-loop-block l =
-    Blockwise l.file l.start.0 l.blocks l.most l.initial.table l.block l.gathering l.table
+    Blockwise l.file l.recording.start.0 l.recording.blocks l.most l.initial.table l.block l.gathering l.table
 
-abbrev pub decreases-loop-block : goal.decreases-loop-block
-decreases-loop-block l = l.blocks - l.block

@@ -5,11 +5,11 @@ use Rattle.qp7.proofs.hand_out.Goals as goal
 
 pub returns-then-records-most : goal.returns-then-records-most
 returns-then-records-most c =
-    rw c.room.ensures (few_records _ c.args.walk c.requires.counted _ _ c.if-records-most.true)
+    (few_records _ c.args.walk c.requires.counted _ _ c.if-records-most.true)
 
 pub returns-then-segments-most : goal.returns-then-segments-most
 returns-then-segments-most c =
-    rw c.segments.ensures (few_segments _ c.args.walk c.requires.counted _ _ c.if-records-most.false c.if-segments-most.true)
+    (few_segments _ c.args.walk c.requires.counted _ _ c.if-records-most.false c.if-segments-most.true)
 
 pub returns : goal.returns
 returns c =

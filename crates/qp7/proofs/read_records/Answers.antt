@@ -3,26 +3,30 @@
 use Prim.Native.Nat.{◌+◌}
 use mathlib.Core.Path.{◌≡◌, refl, sym, ap}
 use native.Mathlib.Omega.{arith}
+use Rattle.std.proofs.lemmas.Result.{err_from_is_err_and}
 use Rattle.tables.proofs.Tests.{told}
 use Rattle.qp7.specs.declared.Walk.{Walk}
-use Rattle.qp7.proofs.Records.{record_found, why_is}
+use Rattle.qp7.proofs.Records.{record_found}
 use Rattle.qp7.proofs.Reading.{reading_goes_on, reading_stops, reading_ends}
 use borrow.Author.Rules.{rules}
 use Rattle.std.proofs.Common.{rules, ◌≡◌, ◌+◌}
 use Rattle.qp7.proofs.read_records.Goals as goal
 use Rattle.refusals.specs.Said.{result_says}
 
-pub returns-in_default-clause-on : goal.returns-in_default-clause-on
-returns-in_default-clause-on c = let why = why_is c.record_at-found.result _ _ c.in_default.is c.why_not.ensures c.record_at-found.ensures in (λ g e. reading_stops _ _ _ _ g _ _ _ c.loop-k.k (c.loop-k.invariant.3 g e) _ c.loop-k-test.true why)
+pub returns-in_err-size-clause-on : goal.returns-in_err-size-clause-on
+returns-in_err-size-clause-on c =
+    let p = err_from_is_err_and c.from_residual.result c.from_residual.ensures.1 in
+    rw (p.1, p.2)
+    (λ g e. reading_stops _ _ _ _ g _ _ _ c.loop-k.k (c.loop-k.invariant.3 g e) _ c.loop-k-test.true c.in_err-size.ensures)
 
 pub overflow_add-at : goal.overflow_add-at
 overflow_add-at c =
-    let there = told (ap result_says c.in-Is.is) c.record_at-found.ensures in
+    let there = c.in_ok-size.ensures in
     omega (arith, (record_found _ _ _ _ (sym there)).1)
 
 pub loop-k-preserved : goal.loop-k-preserved
 loop-k-preserved c =
-    let there = told (ap result_says c.in-Is.is) c.record_at-found.ensures in (
+    let there = c.in_ok-size.ensures in (
       omega (arith, c.loop-k-test.true),
       (record_found _ _ _ _ (sym there)).1,
       search rules,

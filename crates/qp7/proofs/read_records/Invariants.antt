@@ -15,5 +15,3 @@ invariant-loop-k l =
     × ((g : Gathered) → l.walk ≡ numbers_of g
     → Came (stream_at l.file l.recording.start.0 l.recording.blocks) (506 * l.recording.blocks) l.count l.most g l.initial.records l.records l.at.0 l.k)
 
-abbrev pub decreases-loop-k : goal.decreases-loop-k
-decreases-loop-k l = l.count - l.k

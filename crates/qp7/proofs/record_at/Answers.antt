@@ -11,13 +11,13 @@ use Rattle.qp7.specs.Records.{record_size}
 use Rattle.qp7.proofs.record_at.Goals as goal
 
 pub returns-then-left-lt2 : goal.returns-then-left-lt2
-returns-then-left-lt2 c = rw c.selector.ensures (no_selector _ _ _ (omega (arith, c.if-left-lt2.true)))
+returns-then-left-lt2 c = (no_selector _ _ _ (omega (arith, c.if-left-lt2.true)))
 
 pub returns-then-left-size : goal.returns-then-left-size
 returns-then-left-size c =
     let byte = c.stream_byte-second.ensures ∙ sym (stream_in c.args.file.now c.args.recording.start.0 c.args.recording.blocks (c.args.at.0 + 1) (omega (arith, c.if-left-lt2.false))) in
     let size = c.size_of-size.ensures.0 ∙ ap record_size byte in
-    rw c.«record».ensures (runs_past _ _ _ _ (omega (arith, c.if-left-lt2.false)) size (omega (arith, c.if-left-size.true)))
+    (runs_past _ _ _ _ (omega (arith, c.if-left-lt2.false)) size (omega (arith, c.if-left-size.true)))
 
 pub returns : goal.returns
 returns c =

@@ -11,5 +11,3 @@ invariant-loop-block l =
     (l.block ≤ l.recording.blocks) × (length l.records ≡ length l.initial.records) × (length l.segments ≡ length l.initial.segments)
     × Gathers l.file l.recording l.most l.initial.records l.records l.initial.segments l.segments l.walk l.block
 
-abbrev pub decreases-loop-block : goal.decreases-loop-block
-decreases-loop-block l = l.blocks - l.block
