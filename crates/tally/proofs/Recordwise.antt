@@ -29,6 +29,7 @@ use Rattle.qp7.proofs.Reading.{reads_keep}
 use Rattle.qp7.proofs.Blockwise.{silent_is, announcing_is}
 use Rattle.qp7.proofs.Gathering.{up_to, gone_on, Gathers, gathered_more, gathered_from_lem, gathering_begins, stands_refused}
 use Rattle.tally.specs.declared.FileKind.TheVariants.{Ds2Qp7}
+use Rattle.tally.specs.declared.HandedOut.{HandedOut}
 use Rattle.tally.specs.HandedOut.{sizes_of, records_out}
 use Rattle.tally.specs.Tallies.{handed_by}
 use Rattle.std.specs.Prelude.{Result, Ok, Err}
@@ -108,17 +109,17 @@ tallying_goes_on {f} {rec} {walk = walk} {walk'} {b} {bytes} t next read is =
         (ap (λ (w : Walk). w.place.0) t.so.stands) (ap (λ (w : Walk). w.place.0) next.stands) is
 
 -- a block that is refused
-pub told_why : (f : List ℕ) (rec : Recording) (came : Result Walk Refusal) (why : Refusal) → came ≡ Err why
-    → result_says came ≡ numbers_at (gathered_from f rec) → result_says (Err why) ≡ handed_by Ds2Qp7 f rec
-told_why f rec came why is says =
+pub told_why : (f : List ℕ) (rec : Recording) (why : Refusal) → result_says {A = Walk} (Err why) ≡ numbers_at (gathered_from f rec)
+    → result_says {A = HandedOut} (Err why) ≡ handed_by Ds2Qp7 f rec
+told_why f rec why says =
     sym
     (ap (λ (said : Said Gathered). onward said (λ g. answers (records_out (stream_in f rec) g.records)))
-    (stands_refused (gathered_from f rec) (ap result_says (sym is) ∙ says)))
+    (stands_refused (gathered_from f rec) says))
 
 -- all blocks: closing the last segment changes no record
 pub tallying_ends : {f : List ℕ} {rec : Recording} {most : Totals} {records records' segments segments' : List ℕ} {walk : Walk} {b bytes : ℕ}
     → Tallying f rec most records records' segments segments' walk b bytes → rec.blocks ≡ b
-    → result_says (Ok (record { many = walk.records; short = 0; bytes = bytes })) ≡ handed_by Ds2Qp7 f rec
+    → answers (record { many = walk.records; short = 0; bytes = bytes }) ≡ handed_by Ds2Qp7 f rec
 tallying_ends {f} {rec} {walk = walk} {b} {bytes} t done =
     let many : walk.records ≡ length t.so.here.records = ap (λ (w : Walk). w.records) t.so.stands in
     let sizes = t.bytes_are in

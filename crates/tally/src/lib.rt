@@ -82,6 +82,7 @@ fn handed_out(
 }
 
 // The tally of a recording of this kind.
+#[tactic(auto, unfolding(crate::specs::Tallies::counted_as))]
 fn count(file: &[u8], recording: Recording, kind: FileKind) -> Result<Figures, Refusal>
     requires { Sound file.now recording }
     ensures { result_says result ≡ counted_as kind file.now recording }
@@ -120,6 +121,7 @@ fn kind_in(dss: bool, file: &[u8], recording: Recording) -> FileKind
 }
 
 // The tally of any file, or the refusal that its whole reading gives: 1, 2, 3, 4 or 5.
+#[tactic(auto, unfolding(crate::specs::Tallies::tallied))]
 pub fn tally(file: &[u8]) -> Result<Figures, Refusal>
     ensures { result_says result ≡ tallied file.now }
 {

@@ -5,4 +5,4 @@ use Rattle.tally.proofs.in_frames.of_open.Goals as goal
 
 pub returns-clause-counted : goal.returns-clause-counted
 returns-clause-counted c = (λ g is.
-    open_counted c.args.end c.args.gathering g is c.requires.0.place_is _ _ c.lesser-stop.ensures c.lesser-short.ensures)
+    open_counted c.args.end c.args.gathering g is c.requires.0.place_is _ _ c.min.ensures c.min-short.ensures)

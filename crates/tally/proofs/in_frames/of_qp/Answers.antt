@@ -19,9 +19,9 @@ loop-block-preserved c =
     let moves = c.arrive-arrived.ensures.moves g w.is in
     let next = c.add-gathering.ensures.adds (moved (506 * a.recording.blocks) c.block_start-at.result.0 g) moves.gathering_is in (
       blocks_go_on _ _ _ _ _ l.block _ _ l.gathering _ l.table _ c.arrive-arrived.result c.loop-block-test.true w
-          c.block_start-at.ensures.0 c.count_byte-count.ensures.0 c.count_byte-count.ensures.1 moves next (c.add-gathering.ensures.near _ _ _ (c.arrive-arrived.ensures.near _ _ w.near)),
+          c.block_start-at.ensures.0 c.count_byte.ensures.0 c.count_byte.ensures.1 moves next (c.add-gathering.ensures.near _ _ _ (c.arrive-arrived.ensures.near _ _ w.near)),
       handing_goes_on _ _ _ l.block l.gathering l.out w.is w.near.place_is l.invariant.1 _ _ _ _ c.block_start-at.ensures.0
-          c.count_byte-count.ensures.1 (c.after_arrival-out.ensures g w.is l.invariant.1.out_is) next,
+          c.count_byte.ensures.1 (c.after_arrival-out.ensures g w.is l.invariant.1.out_is) next,
     )
 
 pub returns : goal.returns

@@ -7,7 +7,5 @@ use Rattle.tally.proofs.in_frames.of_qp.Given as goal
 
 abbrev pub invariant-loop-block : goal.invariant-loop-block
 invariant-loop-block l =
-    Blockwise l.file l.start.0 l.blocks 0 l.initial.table l.block l.gathering l.table × Handing l.file l.start.0 l.blocks l.block l.gathering l.out
+    Blockwise l.file l.recording.start.0 l.recording.blocks 0 l.initial.table l.block l.gathering l.table × Handing l.file l.recording.start.0 l.recording.blocks l.block l.gathering l.out
 
-abbrev pub decreases-loop-block : goal.decreases-loop-block
-decreases-loop-block l = l.blocks - l.block

@@ -11,13 +11,13 @@ use Rattle.tally.proofs.Packetwise.{nothing_out, run_alone}
 use Rattle.tally.proofs.Runwise.{none_past}
 use Rattle.tally.proofs.in_packets.of_ds2.Goals as goal
 
-pub returns-then-blocks-eq0 : goal.returns-then-blocks-eq0
-returns-then-blocks-eq0 c =
+pub returns-then-recording-eq0 : goal.returns-then-recording-eq0
+returns-then-recording-eq0 c =
     let a = c.args in
-    nothing_out _ (ds2_packets _ _ _ ∙ ap (announced_in a.file.now a.recording.start.0) c.if-blocks-eq0.true ∙ announced_none _ _)
+    nothing_out _ (ds2_packets _ _ _ ∙ ap (announced_in a.file.now a.recording.start.0) c.if-recording-eq0.true ∙ announced_none _ _)
 
-pub of_run-added-requires : goal.of_run-added-requires
-of_run-added-requires c =
+pub of_run-requires : goal.of_run-requires
+of_run-requires c =
     let a = c.args in
     let few = few_blocks _ a.recording c.requires.sound in
     let most = announced_most a.file.now a.recording.start.0 a.recording.blocks (λ i. omega (arith, c.shared_slice_known-1.given i)) in
@@ -25,4 +25,4 @@ of_run-added-requires c =
 
 pub returns : goal.returns
 returns c =
-    rw (← c.swap_flag-swap.ensures, ← c.requires.announced) (run_alone _ _ _ _ (c.of_run-added.ensures.adds _ [] (none_past _ _)).out_is)
+    rw (← c.swap_flag.ensures, ← c.requires.announced) (run_alone _ _ _ _ (c.of_run.ensures.adds _ [] (none_past _ _)).out_is)

@@ -7,7 +7,5 @@ use Rattle.tally.proofs.in_packets.of_dss.Given as goal
 
 abbrev pub invariant-loop-block : goal.invariant-loop-block
 invariant-loop-block l =
-    Runwise l.file l.start.0 l.blocks (stream_at l.file l.start.0 l.blocks) l.long l.block l.out l.sourced
+    Runwise l.file l.recording.start.0 l.recording.blocks (stream_at l.file l.recording.start.0 l.recording.blocks) l.long l.block l.out l.sourced
 
-abbrev pub decreases-loop-block : goal.decreases-loop-block
-decreases-loop-block l = l.blocks - l.block

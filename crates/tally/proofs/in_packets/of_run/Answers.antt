@@ -12,7 +12,7 @@ returns-then-end-left-clause-adds c =
     let a = c.args in
     let run = a.run in
     let end = c.reach-end.ensures in
-    let left = c.left_from-left.ensures in
+    let left = c.saturating_sub-left.ensures in
     (run_added run a.long a.sourced _ run.count (c.of_complete.ensures (a.long - run.start.0) (omega (arith, left)))
     (omega arith) (omega (arith, end, left)) (λ less. absurd (omega arith))).0
 
@@ -20,7 +20,7 @@ pub returns-clause-adds : goal.returns-clause-adds
 returns-clause-adds c =
     let a = c.args in
     let run = a.run in
-    let left = c.left_from-left.ensures in
+    let left = c.saturating_sub-left.ensures in
     let w = c.of_cut.ensures in
     (run_added run a.long a.sourced _ w.0
     (w.4 ∙ ap (λ (x : ℕ). adds_by run.swap run.count w.0 x a.sourced) left)

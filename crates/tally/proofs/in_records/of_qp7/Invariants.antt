@@ -8,6 +8,3 @@ abbrev pub invariant-loop-block : goal.invariant-loop-block
 invariant-loop-block l =
     (l.block ≤ l.recording.blocks) × Tallying l.file l.recording l.none l.initial.records l.records l.initial.segments l.segments l.walk l.block l.bytes
 
-abbrev pub decreases-loop-block : goal.decreases-loop-block
-decreases-loop-block l =
-    l.blocks - l.block
