@@ -12,7 +12,7 @@ ghost use Rattle.hold.specs.Ready.{ends_at};
 ghost use Rattle.hold.specs.Inner.{Holds, Bears};
 
 use blocks::StreamPlace;
-use packets::Packet;
+use packets::{PACKET, Packet};
 use sp::Run;
 
 // Runs with no walk.
@@ -48,10 +48,7 @@ pub struct Released {
 pub fn first_byte(b: usize, known: u8, here: u8) -> u8
     ensures { result ≡ cond (eqb b 0) here known }
 {
-    if b == 0 {
-        return here;
-    }
-    known
+    if b == 0 { here } else { known }
 }
 
 // A read that begins here in the hold, or before, lies in it whatever its parity: 12,288 less 42.
@@ -59,17 +56,12 @@ const LAST_INSIDE: usize = 12246;
 
 // The 42 bytes from there on, 0 past the hold's end.
 fn window(hold: &[u8; 12288], at: usize) -> [u8; 42]
-    requires { length hold.now ≡ 12288 }
     ensures { result ≡ table 42 (λ i. get_or hold.now (at + i) 0) }
 {
-    let mut window = [0u8; 42];
-    let begin = tables::lesser(at, 12288);
-    let n = tables::lesser(12288 - begin, 42);
-    let mut k = 0;
-    while k < n {
-        window[k] = hold[begin + k];
-        k += 1;
-    }
+    let mut window = [0u8; PACKET];
+    let begin = at.min(HOLD);
+    let n = (HOLD - begin).min(PACKET);
+    tables::copy(&mut window, 0, hold, begin, n);
     window
 }
 
@@ -82,31 +74,26 @@ pub fn held_packet(
     swap: bool,
     carry: u8,
 ) -> Packet
-    requires { (length hold.now ≡ 12288) × (base.0 ≤ q.0) × (q.0 < 2 ^ 62) }
+    requires { (base.0 ≤ q.0) × (q.0 < 2 ^ 62) }
     ensures { (result.next.0 ≡ q.0 + read_size swap) × ((s : ℕ → ℕ) → Holds s long base.0 hold.now → IsPacket s long swap carry q.0 result) }
 {
-    let place = q.0;
-    let at = place - base.0;
-    let next = place + packets::read_size(swap);
+    let at = q.0 - base.0;
+    let next = StreamPlace(q.0 + packets::read_size(swap));
     let count = packets::file_count(long, q, swap);
     if at <= LAST_INSIDE {
-        let bytes = packets::packet_bytes(hold, at, swap, carry);
-        let after = packets::carry_after(hold, at, swap, carry);
         return Packet {
-            bytes,
+            bytes: packets::packet_bytes(hold, at, swap, carry),
             count,
-            carry: after,
-            next: StreamPlace(next),
+            carry: packets::carry_after(hold, at, swap, carry),
+            next,
         };
     }
     let window = window(hold, at);
-    let bytes = packets::packet_bytes(&window, 0, swap, carry);
-    let after = packets::carry_after(&window, 0, swap, carry);
     Packet {
-        bytes,
+        bytes: packets::packet_bytes(&window, 0, swap, carry),
         count,
-        carry: after,
-        next: StreamPlace(next),
+        carry: packets::carry_after(&window, 0, swap, carry),
+        next,
     }
 }
 
@@ -121,25 +108,20 @@ pub fn write_held(
     out: &mut [u8],
     counts: &mut [u8],
 ) -> u8
-    requires held { (length hold.now ≡ 12288) × (base.0 ≤ run.start.0) }
+    requires held { base.0 ≤ run.start.0 }
     requires near { (run.start.0 ≤ 2 ^ 48) × (run.count ≤ 2 ^ 48) }
     requires room { (42 * (number + run.count) ≤ length out.old) × (number + run.count ≤ length counts.old) }
     ensures { (s : ℕ → ℕ) → Holds s long base.0 hold.now → RunWritten s long (run_begin carry run) number run.count out.old out.new counts.old counts.new result }
 {
-    let count = run.count;
-    let begin = base.0;
     let mut place = run.start;
     let mut swap = run.swap;
     let mut carried = carry;
-    let mut n: usize = 0;
-    while n < count {
-        let packet = held_packet(hold, StreamPlace(begin), long, place, swap, carried);
+    for n in 0..run.count {
+        let packet = held_packet(hold, base, long, place, swap, carried);
         place = packet.next;
         carried = packet.carry;
         swap = !swap;
-        let here = number + n;
-        sp::put(packet, here, out, counts);
-        n += 1;
+        sp::put(packet, number + n, out, counts);
     }
     carried
 }
@@ -156,16 +138,13 @@ fn source_packet(
     requires { (at + 506 ≤ length source.now) × (base.0 ≤ q.0) × (q.0 + read_size swap ≤ base.0 + 506) × (q.0 < 2 ^ 62) }
     ensures { (result.next.0 ≡ q.0 + read_size swap) × ((s : ℕ → ℕ) → Bears source.now at base.0 s → IsPacket s (base.0 + 506) swap carry q.0 result) }
 {
-    let place = q.0;
     let size = packets::read_size(swap);
-    let here = at + (place - base.0);
-    let bytes = packets::packet_bytes(source, here, swap, carry);
-    let after = packets::carry_after(source, here, swap, carry);
+    let here = at + (q.0 - base.0);
     Packet {
-        bytes,
+        bytes: packets::packet_bytes(source, here, swap, carry),
         count: size as u8,
-        carry: after,
-        next: StreamPlace(place + size),
+        carry: packets::carry_after(source, here, swap, carry),
+        next: StreamPlace(q.0 + size),
     }
 }
 
@@ -185,20 +164,15 @@ pub fn write_through(
     requires room { (42 * (number + run.count) ≤ length out.old) × (number + run.count ≤ length counts.old) }
     ensures { (s : ℕ → ℕ) → Bears source.now at base.0 s → RunWritten s (base.0 + 506) (run_begin carry run) number run.count out.old out.new counts.old counts.new result }
 {
-    let count = run.count;
-    let begin = base.0;
     let mut place = run.start;
     let mut swap = run.swap;
     let mut carried = carry;
-    let mut n: usize = 0;
-    while n < count {
-        let packet = source_packet(source, at, StreamPlace(begin), place, swap, carried);
+    for n in 0..run.count {
+        let packet = source_packet(source, at, base, place, swap, carried);
         place = packet.next;
         carried = packet.carry;
         swap = !swap;
-        let here = number + n;
-        sp::put(packet, here, out, counts);
-        n += 1;
+        sp::put(packet, number + n, out, counts);
     }
     carried
 }

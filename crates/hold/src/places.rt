@@ -12,12 +12,9 @@ pub fn part_of(run: Run, k: usize, m: usize) -> Run
     requires { (k ≤ 2 ^ 48) × (run.start.0 ≤ 2 ^ 48) }
     ensures { result ≡ part_of run k m }
 {
-    let begin = run.start.0;
-    let swap = run.swap;
-    let place = begin + packets::reach(swap, k);
     Run {
-        start: StreamPlace(place),
-        swap: packets::parity(swap, k),
+        start: StreamPlace(run.start.0 + packets::reach(run.swap, k)),
+        swap: packets::parity(run.swap, k),
         count: m,
     }
 }
@@ -27,6 +24,5 @@ pub fn ends_at(run: Run) -> usize
     requires { (run.count ≤ 2 ^ 48) × (run.start.0 ≤ 2 ^ 48) }
     ensures { result ≡ ends_at run }
 {
-    let begin = run.start.0;
-    begin + packets::reach(run.swap, run.count)
+    run.start.0 + packets::reach(run.swap, run.count)
 }

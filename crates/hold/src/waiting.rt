@@ -22,7 +22,7 @@ pub fn flag(byte: u8) -> bool
 
 // Enters a block behind i others.
 pub fn enter(waiting: &mut [u8; 66], i: usize, source: &[u8], at: usize)
-    requires { (length waiting.old ≡ 66) × (i < 22) × (at + 3 ≤ length source.now) }
+    requires { (i < 22) × (at + 3 ≤ length source.now) }
     ensures { Leaves waiting.old (3 * i) 3 (λ k. get_or source.now (at + k) 0) waiting.new }
 {
     tables::copy(waiting, 3 * i, source, at, 3);
@@ -34,14 +34,16 @@ pub fn block_run(block: usize, byte0: u8, byte1: u8, byte2: u8) -> Run
     ensures { (result.count ≤ 255) × (result.start.0 ≤ 506 * block + 506) × ((f : List ℕ) (a : ℕ) → byte0 ≡ header_byte f a block 0 → byte1 ≡ header_byte f a block 1 → byte2 ≡ header_byte f a block 2 → result ≡ dss_run f a block) }
 {
     let swap = flag(byte0);
-    let start = packets::dss_start(block, tables::wide(byte1), swap);
-    let count = tables::wide(byte2);
-    Run { start, swap, count }
+    Run {
+        start: packets::dss_start(block, usize::from(byte1), swap),
+        swap,
+        count: usize::from(byte2),
+    }
 }
 
 // The run of the i-th block that waits, whose number is this.
 pub fn waiting_run(waiting: &[u8; 66], i: usize, block: usize) -> Run
-    requires { (length waiting.now ≡ 66) × (i < 22) × (block ≤ 524288) }
+    requires { (i < 22) × (block ≤ 524288) }
     ensures { (result.count ≤ 255) × (result.start.0 ≤ 506 * block + 506) × ((f : List ℕ) (a n j : ℕ) → waiting.now ≡ headers_from f a n j → j + i ≡ block → block < n → result ≡ dss_run f a block) }
 {
     let at = 3 * i;
@@ -50,23 +52,22 @@ pub fn waiting_run(waiting: &[u8; 66], i: usize, block: usize) -> Run
 
 // How many of the blocks that wait can leave when n blocks are there, the first being block j; and how many packets they have.
 pub fn released(waiting: &[u8; 66], j: usize, n: usize) -> Released
-    requires { (length waiting.now ≡ 66) × (j ≤ n) × (n ≤ j + 22) × (n ≤ 524288) }
+    requires { (j ≤ n) × (n ≤ j + 22) × (n ≤ 524288) }
     ensures { (result.blocks ≤ n - j) × ((f : List ℕ) (a : ℕ) → waiting.now ≡ headers_from f a n j → ((b : ℕ) → b < j → read_in f a n b ≡ true) → (j + result.blocks ≡ front f a n) × (announced_in f a j + result.packets ≡ announced_in f a (front f a n))) }
 {
     let long = PAYLOAD * n;
-    let mut blocks: usize = 0;
     let mut packets: usize = 0;
-    while blocks < n - j {
+    for blocks in 0..n - j {
         let run = waiting_run(waiting, blocks, j + blocks);
-        let count = run.count;
-        let end = crate::places::ends_at(run);
-        if long < end {
+        if long < crate::places::ends_at(run) {
             return Released { blocks, packets };
         }
-        packets += count;
-        blocks += 1;
+        packets += run.count;
     }
-    Released { blocks, packets }
+    Released {
+        blocks: n - j,
+        packets,
+    }
 }
 
 // Hands out m packets of the blocks that wait, the first being block j of n, d packets after its first; gives back what is carried on.
@@ -82,36 +83,26 @@ pub fn write_waiting(
     out: &mut [u8],
     counts: &mut [u8],
 ) -> u8
-    requires long { (length hold.now ≡ 12288) × (length waiting.now ≡ 66) }
-    requires queued { Queued n j d m number hold.now waiting.now carry (length out.old) (length counts.old) }
+    requires { Queued n j d m number hold.now waiting.now carry (length out.old) (length counts.old) }
     ensures { (g : Queued n j d m number hold.now waiting.now carry (length out.old) (length counts.old)) → PartWritten (reading_in true g.f g.a n) (announced_in g.f g.a j + d) m number out.old out.new counts.old counts.new result }
 {
-    let base = PAYLOAD * j;
+    let base = StreamPlace(PAYLOAD * j);
     let long = PAYLOAD * n;
-    let mut i: usize = 0;
     let mut skip = d;
     let mut left = m;
     let mut carried = carry;
-    while 0 < left {
-        let run = waiting_run(waiting, i, j + i);
-        let count = run.count;
-        let here = tables::lesser(skip, count);
-        let some = tables::lesser(count - here, left);
+    for block in j..n {
+        if left == 0 {
+            return carried;
+        }
+        let run = waiting_run(waiting, block - j, block);
+        let here = skip.min(run.count);
+        let some = (run.count - here).min(left);
         let part = crate::places::part_of(run, here, some);
         let to = number + (m - left);
-        carried = crate::write_held(
-            hold,
-            StreamPlace(base),
-            long,
-            part,
-            carried,
-            to,
-            out,
-            counts,
-        );
+        carried = crate::write_held(hold, base, long, part, carried, to, out, counts);
         skip -= here;
         left -= some;
-        i += 1;
     }
     carried
 }

@@ -12,9 +12,9 @@ returns-then-at-le-LAST_INSIDE c =
       search rules,
       λ s holds.
           gathered s a.long a.swap a.carry a.q.0 a.hold.now _ _ (hold_agrees holds a.q.0 (search rules) a.swap)
-          c.packet_bytes-bytes.ensures
+          c.packet_bytes.ensures
           c.file_count-count.ensures
-          c.carry_after-after.ensures
+          c.carry_after.ensures
           (search rules),
     )
 
@@ -25,8 +25,8 @@ returns c =
       λ s holds.
           gathered s a.long a.swap a.carry a.q.0 c.window-window.result 0 _
           (window_agrees holds a.q.0 (search rules) a.swap c.window-window.result c.window-window.ensures)
-          c.packet_bytes-bytes-2.ensures
+          c.packet_bytes-2.ensures
           c.file_count-count.ensures
-          c.carry_after-after-2.ensures
+          c.carry_after-2.ensures
           (search rules),
     )

@@ -16,8 +16,8 @@ returns c =
       λ s bears.
           gathered s (a.base.0 + 506) a.swap a.carry a.q.0 a.source.now _ _
           (bears_agree a.source.now a.at a.base.0 a.q.0 a.swap (search rules) (search rules) s bears)
-          c.packet_bytes-bytes.ensures
+          c.packet_bytes.ensures
           (c.read_size-size.ensures.0 ∙ sym (count_full (a.base.0 + 506) a.swap a.q.0 (search rules)))
-          c.carry_after-after.ensures
+          c.carry_after.ensures
           (search rules),
     )

@@ -7,9 +7,5 @@ use Rattle.hold.proofs.write_held.Given as goal
 
 abbrev pub invariant-loop-n : goal.invariant-loop-n
 invariant-loop-n l =
-    Handing (λ s. Holds s l.long l.begin l.hold) l.begin l.long (record { place = l.initial.place.0; carry = l.initial.carried; swap = l.initial.swap }) l.number l.initial.out l.initial.counts l.count l.n
+    Handing (λ s. Holds s l.long l.base.0 l.hold) l.base.0 l.long (record { place = l.initial.place.0; carry = l.initial.carried; swap = l.initial.swap }) l.number l.initial.out l.initial.counts l.n-end l.n
     (record { place = l.place.0; carry = l.carried; swap = l.swap }) l.out l.counts
-
-abbrev pub decreases-loop-n : goal.decreases-loop-n
-decreases-loop-n l =
-    l.count - l.n

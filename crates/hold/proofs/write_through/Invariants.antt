@@ -7,9 +7,5 @@ use Rattle.hold.proofs.write_through.Given as goal
 
 abbrev pub invariant-loop-n : goal.invariant-loop-n
 invariant-loop-n l =
-    Handing (Bears l.source l.at l.begin) l.begin (l.begin + 506) (record { place = l.initial.place.0; carry = l.initial.carried; swap = l.initial.swap }) l.number l.initial.out l.initial.counts l.count l.n
+    Handing (Bears l.source l.at l.base.0) l.base.0 (l.base.0 + 506) (record { place = l.initial.place.0; carry = l.initial.carried; swap = l.initial.swap }) l.number l.initial.out l.initial.counts l.n-end l.n
     (record { place = l.place.0; carry = l.carried; swap = l.swap }) l.out l.counts
-
-abbrev pub decreases-loop-n : goal.decreases-loop-n
-decreases-loop-n l =
-    l.count - l.n

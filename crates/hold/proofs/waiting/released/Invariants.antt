@@ -6,6 +6,3 @@ use Rattle.hold.proofs.waiting.released.Given as goal
 
 abbrev pub invariant-loop-blocks : goal.invariant-loop-blocks
 invariant-loop-blocks l = Leaving l.waiting l.j l.n l.blocks l.packets
-
-abbrev pub decreases-loop-blocks : goal.decreases-loop-blocks
-decreases-loop-blocks l = l.n - l.j - l.blocks
