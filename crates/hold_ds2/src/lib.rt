@@ -24,8 +24,7 @@ pub fn write_walk(
     out: &mut [u8],
     counts: &mut [u8],
 ) -> u8
-    requires long { length hold.now ≡ 12288 }
-    requires walking { Walking n k m number hold.now base.0 first carry (length out.old) (length counts.old) }
+    requires { Walking n k m number hold.now base.0 first carry (length out.old) (length counts.old) }
     ensures { (g : Walking n k m number hold.now base.0 first carry (length out.old) (length counts.old)) → PartWritten (reading_in false g.f g.a n) k m number out.old out.new counts.old counts.new result }
 {
     let walk = Run {
@@ -48,34 +47,23 @@ pub fn add_ds2(
     out: &mut [u8],
     counts: &mut [u8],
 ) -> Standing
-    requires long { length hold.old ≡ 12288 }
-    requires next { (w : List ℕ) × Next false b number hold.old w was source.now at (length out.old) (length counts.old) }
-    ensures { (length hold.new ≡ 12288) × ((w : List ℕ) (g : Next false b number hold.old w was source.now at (length out.old) (length counts.old)) → Added false g.f g.a g.n b number hold.new w result out.old out.new counts.old counts.new) }
+    requires { (w : List ℕ) × Next false b number hold.old w was source.now at (length out.old) (length counts.old) }
+    ensures { (w : List ℕ) (g : Next false b number hold.old w was source.now at (length out.old) (length counts.old)) → Added false g.f g.a g.n b number hold.new w result out.old out.new counts.old counts.new }
 {
-    let base = was.base.0;
-    let held = PAYLOAD * b - base;
+    let held = PAYLOAD * b - was.base.0;
     hold::bytes::append(hold, held, source, at + HEADER);
     let first = hold::first_byte(b, was.first, source[at]);
-    let announced = was.announced + tables::wide(source[at + 2]);
+    let announced = was.announced + usize::from(source[at + 2]);
     let swap = hold::waiting::flag(first);
     let all = b + 1;
-    let ready = tables::lesser(announced, packets::reads_within(swap, PAYLOAD * all));
+    let ready = announced.min(packets::reads_within(swap, PAYLOAD * all));
     let k = was.ready;
     let m = ready - k;
     let carry = write_walk(
-        hold,
-        StreamPlace(base),
-        first,
-        all,
-        k,
-        m,
-        was.carry,
-        number,
-        out,
-        counts,
+        hold, was.base, first, all, k, m, was.carry, number, out, counts,
     );
     let next = packets::reach(swap, ready);
-    hold::bytes::drop_front(hold, next - base, held + PAYLOAD);
+    hold::bytes::drop_front(hold, next - was.base.0, held + PAYLOAD);
     Standing {
         announced,
         ready,

@@ -24,34 +24,29 @@ fn queue_dss(
     out: &mut [u8],
     counts: &mut [u8],
 ) -> Standing
-    requires long { (length hold.old ≡ 12288) × (length waiting.old ≡ 66) }
-    requires next { Next true b number hold.old waiting.old was source.now at (length out.old) (length counts.old) }
-    ensures { (length hold.new ≡ 12288) × (length waiting.new ≡ 66) × ((g : Next true b number hold.old waiting.old was source.now at (length out.old) (length counts.old)) → Added true g.f g.a g.n b number hold.new waiting.new result out.old out.new counts.old counts.new) }
+    requires { Next true b number hold.old waiting.old was source.now at (length out.old) (length counts.old) }
+    ensures { (g : Next true b number hold.old waiting.old was source.now at (length out.old) (length counts.old)) → Added true g.f g.a g.n b number hold.new waiting.new result out.old out.new counts.old counts.new }
 {
-    let base = was.base.0;
-    let j = base / PAYLOAD;
+    let j = was.base.0 / PAYLOAD;
     let wait = b - j;
     let held = PAYLOAD * wait;
     hold::bytes::append(hold, held, source, at + HEADER);
     hold::waiting::enter(waiting, wait, source, at);
     let first = hold::first_byte(b, was.first, source[at]);
-    let announced = was.announced + tables::wide(source[at + 2]);
+    let announced = was.announced + usize::from(source[at + 2]);
     let all = b + 1;
     let gone = hold::waiting::released(waiting, j, all);
     let m = gone.packets;
-    let blocks = gone.blocks;
     let carry = hold::waiting::write_waiting(
         hold, waiting, all, j, 0, m, was.carry, number, out, counts,
     );
-    let by = PAYLOAD * blocks;
+    let by = PAYLOAD * gone.blocks;
     hold::bytes::drop_front(hold, by, held + PAYLOAD);
-    hold::bytes::drop_front(waiting, 3 * blocks, 3 * wait + 3);
-    let ready = was.ready + m;
-    let next = base + by;
+    hold::bytes::drop_front(waiting, 3 * gone.blocks, 3 * wait + 3);
     Standing {
         announced,
-        ready,
-        base: StreamPlace(next),
+        ready: was.ready + m,
+        base: StreamPlace(was.base.0 + by),
         first,
         carry,
     }
@@ -62,10 +57,7 @@ fn passes(base: StreamPlace, b: usize, run: Run) -> bool
     requires { (b ≤ 524288) × (run.count ≤ 255) × (run.start.0 ≤ 2 ^ 48) }
     ensures { result ≡ cond (eqb base.0 (506 * b)) (leb (ends_at run) (506 * (b + 1))) false }
 {
-    if base.0 != PAYLOAD * b {
-        return false;
-    }
-    hold::places::ends_at(run) <= PAYLOAD * (b + 1)
+    base.0 == PAYLOAD * b && hold::places::ends_at(run) <= PAYLOAD * (b + 1)
 }
 
 // Hands a DSS block's packets out from where it stands: nothing is held, and nothing waits, before it and after it.
@@ -83,13 +75,10 @@ fn pass_dss(
     requires passes { (was.base.0 ≡ 506 * b) × (ends_at run ≤ 506 * (b + 1)) × ((h w : List ℕ) (g : Next true b number h w was source.now at (length out.old) (length counts.old)) → run ≡ dss_run g.f g.a b) }
     ensures { (h w : List ℕ) (g : Next true b number h w was source.now at (length out.old) (length counts.old)) → Added true g.f g.a g.n b number h w result out.old out.new counts.old counts.new }
 {
-    let base = was.base;
-    let count = run.count;
-    let next = base.0 + PAYLOAD;
     let carry = hold::write_through(
         source,
         at + HEADER,
-        base,
+        was.base,
         run,
         was.carry,
         number,
@@ -97,9 +86,9 @@ fn pass_dss(
         counts,
     );
     Standing {
-        announced: was.announced + count,
-        ready: was.ready + count,
-        base: StreamPlace(next),
+        announced: was.announced + run.count,
+        ready: was.ready + run.count,
+        base: StreamPlace(was.base.0 + PAYLOAD),
         first: hold::first_byte(b, was.first, source[at]),
         carry,
     }
@@ -117,9 +106,8 @@ pub fn add_dss(
     out: &mut [u8],
     counts: &mut [u8],
 ) -> Standing
-    requires long { (length hold.old ≡ 12288) × (length waiting.old ≡ 66) }
-    requires next { Next true b number hold.old waiting.old was source.now at (length out.old) (length counts.old) }
-    ensures { (length hold.new ≡ 12288) × (length waiting.new ≡ 66) × ((g : Next true b number hold.old waiting.old was source.now at (length out.old) (length counts.old)) → Added true g.f g.a g.n b number hold.new waiting.new result out.old out.new counts.old counts.new) }
+    requires { Next true b number hold.old waiting.old was source.now at (length out.old) (length counts.old) }
+    ensures { (g : Next true b number hold.old waiting.old was source.now at (length out.old) (length counts.old)) → Added true g.f g.a g.n b number hold.new waiting.new result out.old out.new counts.old counts.new }
 {
     let run = hold::waiting::block_run(b, source[at], source[at + 1], source[at + 2]);
     if passes(was.base, b, run) {

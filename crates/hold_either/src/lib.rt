@@ -22,9 +22,8 @@ pub fn add_block(
     out: &mut [u8],
     counts: &mut [u8],
 ) -> Standing
-    requires long { (length hold.old ≡ 12288) × (length waiting.old ≡ 66) }
-    requires next { Next dss b number hold.old waiting.old was source.now at (length out.old) (length counts.old) }
-    ensures { (length hold.new ≡ 12288) × (length waiting.new ≡ 66) × ((g : Next dss b number hold.old waiting.old was source.now at (length out.old) (length counts.old)) → Added dss g.f g.a g.n b number hold.new waiting.new result out.old out.new counts.old counts.new) }
+    requires { Next dss b number hold.old waiting.old was source.now at (length out.old) (length counts.old) }
+    ensures { (g : Next dss b number hold.old waiting.old was source.now at (length out.old) (length counts.old)) → Added dss g.f g.a g.n b number hold.new waiting.new result out.old out.new counts.old counts.new }
 {
     if dss {
         return hold_dss::add_dss(was, b, hold, waiting, source, at, number, out, counts);
@@ -45,15 +44,15 @@ pub fn write_owed(
     out: &mut [u8],
     counts: &mut [u8],
 ) -> u8
-    requires long { (length hold.now ≡ 12288) × (length waiting.now ≡ 66) }
-    requires owing { Owing dss n d m hold.now waiting.now was (length out.old) (length counts.old) }
+    requires { Owing dss n d m hold.now waiting.now was (length out.old) (length counts.old) }
     ensures { (g : Owing dss n d m hold.now waiting.now was (length out.old) (length counts.old)) → PartWritten (reading_in dss g.f g.a n) (ready dss g.f g.a n + d) m 0 out.old out.new counts.old counts.new result }
 {
-    let carry = was.carry;
     if dss {
         let j = was.base.0 / PAYLOAD;
-        return hold::waiting::write_waiting(hold, waiting, n, j, d, m, carry, 0, out, counts);
+        return hold::waiting::write_waiting(hold, waiting, n, j, d, m, was.carry, 0, out, counts);
     }
     let k = was.ready + d;
-    hold_ds2::write_walk(hold, was.base, was.first, n, k, m, carry, 0, out, counts)
+    hold_ds2::write_walk(
+        hold, was.base, was.first, n, k, m, was.carry, 0, out, counts,
+    )
 }

@@ -13,12 +13,12 @@ use Rattle.blocks.proofs.Headers.{announced_most}
 use Rattle.hold.proofs.Adding.{numbers, begun, holds_now}
 use Rattle.hold_ds2.proofs.Ds2Block.{Counted, not_back, walking, walked}
 use Rattle.hold_ds2.proofs.add_ds2.Goals as goal
-use Rattle.hold_ds2.proofs.add_ds2.Goals.{Start, After-append, After-lesser-ready}
+use Rattle.hold_ds2.proofs.add_ds2.Goals.{Start, After-append, After-min-ready}
 
 -- the recording that the call supposes
 supposed : (c : Start)
-    → Next false c.args.b c.args.number c.args.hold.now c.requires.next.0 c.args.was c.args.source.now c.args.at (length c.args.out.now) (length c.args.counts.now)
-supposed c = c.requires.next.1
+    → Next false c.args.b c.args.number c.args.hold.now c.requires.0 c.args.was c.args.source.now c.args.at (length c.args.out.now) (length c.args.counts.now)
+supposed c = c.requires.1
 
 -- the payload is held, in whichever recording it may be
 holds : (c : After-append) (w : List ℕ)
@@ -26,47 +26,45 @@ holds : (c : After-append) (w : List ℕ)
     → Holds (stream_at g.f g.a (c.args.b + 1)) (506 * (c.args.b + 1)) c.args.was.base.0 c.append.new.hold
 holds c w g = holds_now g _ c.append.ensures
 
-counted : (c : After-lesser-ready)
-    → Counted c.args.b c.args.was c.args.source.now c.args.at c.first_byte-first.result (c.args.was.announced + c.wide.result)
-    c.flag-swap.result c.reads_within.result c.lesser-ready.result
+counted : (c : After-min-ready)
+    → Counted c.args.b c.args.was c.args.source.now c.args.at c.first_byte-first.result (c.args.was.announced + c.from.result)
+    c.flag-swap.result c.reads_within.result c.min-ready.result
 counted c =
     record {
       first_is = c.first_byte-first.ensures;
       swap_is = c.flag-swap.ensures;
       reads = c.reads_within.ensures;
-      announced_is = omega (arith, c.wide.ensures);
-      now_is = c.lesser-ready.ensures;
+      announced_is = omega (arith, c.from.ensures);
+      now_is = c.min-ready.ensures;
     }
 
 -- where the walk comes to, in the recording that the call supposes
-goes : (c : After-lesser-ready) (next : ℕ) → next ≡ reach c.flag-swap.result c.lesser-ready.result
-    → (c.args.was.base.0 ≤ next) × (next ≤ 506 * (c.args.b + 1)) × (c.args.was.ready ≤ c.lesser-ready.result)
-goes c next is = not_back c.requires.next.1 (counted c) next is
+goes : (c : After-min-ready) (next : ℕ) → next ≡ reach c.flag-swap.result c.min-ready.result
+    → (c.args.was.base.0 ≤ next) × (next ≤ 506 * (c.args.b + 1)) × (c.args.was.ready ≤ c.min-ready.result)
+goes c next is = not_back c.requires.1 (counted c) next is
 
 pub overflow_sub-held : goal.overflow_sub-held
-overflow_sub-held c = omega (arith, begun c.requires.next.1)
+overflow_sub-held c = omega (arith, begun c.requires.1)
 
 pub overflow_add-announced : goal.overflow_add-announced
 overflow_add-announced c =
-    let g = c.requires.next.1 in
-    omega (arith, (numbers g).announced_is, announced_most g.f g.a c.args.b g.bytes, g.few, g.there, c.wide.ensures)
+    let g = c.requires.1 in
+    omega (arith, (numbers g).announced_is, announced_most g.f g.a c.args.b g.bytes, g.few, g.there, c.from.ensures)
 
 pub overflow_sub-m : goal.overflow_sub-m
-overflow_sub-m c = (goes (goal.at.overflow_sub-m c).After-lesser-ready _ refl).2
+overflow_sub-m c = (goes (goal.at.overflow_sub-m c).After-min-ready _ refl).2
 
-pub write_walk-carry-requires-clause-walking : goal.write_walk-carry-requires-clause-walking
-write_walk-carry-requires-clause-walking c =
-    let at = goal.at.write_walk-carry-requires-clause-walking c in
-    walking c.requires.next.1 (counted at.After-lesser-ready) _ (holds at.After-append _ c.requires.next.1)
+pub write_walk-carry-requires : goal.write_walk-carry-requires
+write_walk-carry-requires c =
+    let at = goal.at.write_walk-carry-requires c in
+    walking c.requires.1 (counted at.After-min-ready) _ (holds at.After-append _ c.requires.1)
 
 pub overflow_sub-next : goal.overflow_sub-next
-overflow_sub-next c = (goes (goal.at.overflow_sub-next c).After-lesser-ready _ c.reach-next.ensures).0
+overflow_sub-next c = (goes (goal.at.overflow_sub-next c).After-min-ready _ c.reach-next.ensures).0
 
 pub returns : goal.returns
 returns c =
-    let at = goal.at.returns c in (
-      c.drop_front.ensures.long ∙ (c.append.ensures.long ∙ c.requires.long),
-      (λ w g.
-          walked g (counted at.After-lesser-ready) _ _ _ _ _ _ _ _ c.reach-next.ensures (holds at.After-append w g) c.drop_front.ensures
-          c.write_walk-carry.ensures),
-    )
+    let at = goal.at.returns c in
+    λ w g.
+    walked g (counted at.After-min-ready) _ _ _ _ _ _ _ _ c.reach-next.ensures (holds at.After-append w g) c.drop_front.ensures
+    c.write_walk-carry.ensures

@@ -10,16 +10,16 @@ use Rattle.hold_ds2.proofs.write_walk.Goals as goal
 
 pub part_of-part-requires : goal.part_of-part-requires
 part_of-part-requires c =
-    let g = c.requires.walking in
+    let g = c.requires in
     (omega (arith, walk_near g), search rules)
 
 pub write_held-requires-clause-held : goal.write_held-requires-clause-held
-write_held-requires-clause-held c = let g = c.requires.walking in
+write_held-requires-clause-held c = let g = c.requires in
     let start = ap (λ (u : Run). u.start.0) c.part_of-part.ensures in
-    let count = ap (λ (u : Run). u.count) c.part_of-part.ensures in (c.requires.long, omega (arith, start, walk_begun g c.flag.result c.flag.ensures))
+    let count = ap (λ (u : Run). u.count) c.part_of-part.ensures in omega (arith, start, walk_begun g c.flag.result c.flag.ensures)
 
 pub write_held-requires-clause-near : goal.write_held-requires-clause-near
-write_held-requires-clause-near c = let g = c.requires.walking in
+write_held-requires-clause-near c = let g = c.requires in
     let start = ap (λ (u : Run). u.start.0) c.part_of-part.ensures in
     let count = ap (λ (u : Run). u.count) c.part_of-part.ensures in (omega (arith, start, walk_near g, reach_most c.flag.result c.args.k), omega (arith, count, walk_near g))
 

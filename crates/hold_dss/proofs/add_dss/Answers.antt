@@ -3,6 +3,4 @@
 use Rattle.hold_dss.proofs.add_dss.Goals as goal
 
 pub returns-then-passes : goal.returns-then-passes
-returns-then-passes c =
-    let long = c.requires.long in
-    (long.0, long.1, c.pass_dss.ensures _ _)
+returns-then-passes c = c.pass_dss.ensures _ _

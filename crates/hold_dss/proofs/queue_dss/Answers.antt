@@ -20,59 +20,50 @@ holds : (c : After-append)
     → Holds (stream_at g.f g.a (c.args.b + 1)) (506 * (c.args.b + 1)) c.args.was.base.0 c.append.new.hold
 holds c g = dss_holds g _ c.append.ensures
 
-hold_long : (c : After-append) → length c.append.new.hold ≡ 12288
-hold_long c = c.append.ensures.long ∙ c.requires.long.0
-
-waiting_long : (c : After-enter) → length c.enter.new.waiting ≡ 66
-waiting_long c = c.enter.ensures.long ∙ c.requires.long.1
-
 pub overflow_sub-wait : goal.overflow_sub-wait
-overflow_sub-wait c = (few c.requires.next).1
+overflow_sub-wait c = (few c.requires).1
 
 pub append-requires : goal.append-requires
-append-requires c = (c.requires.long.0, omega (arith, few c.requires.next), omega (arith, c.requires.next.in_source))
+append-requires c = (omega (arith, few c.requires), omega (arith, c.requires.in_source))
 
 pub enter-requires : goal.enter-requires
-enter-requires c = (c.requires.long.1, omega (arith, few c.requires.next), omega (arith, c.requires.next.in_source))
+enter-requires c = (omega (arith, few c.requires), omega (arith, c.requires.in_source))
 
 pub overflow_add-announced : goal.overflow_add-announced
 overflow_add-announced c =
-    let g = c.requires.next in
-    omega (arith, (numbers g).announced_is, announced_most g.f g.a c.args.b g.bytes, g.few, g.there, c.wide.ensures)
+    let g = c.requires in
+    omega (arith, (numbers g).announced_is, announced_most g.f g.a c.args.b g.bytes, g.few, g.there, c.from.ensures)
 
 pub released-gone-requires : goal.released-gone-requires
 released-gone-requires c =
-    let g = c.requires.next in
-    (waiting_long (goal.at.released-gone-requires c).After-enter, omega (arith, few g), omega (arith, few g), omega (arith, g.few, g.there))
+    let g = c.requires in
+    (omega (arith, few g), omega (arith, few g), omega (arith, g.few, g.there))
 
-pub write_waiting-carry-requires-clause-queued : goal.write_waiting-carry-requires-clause-queued
-write_waiting-carry-requires-clause-queued c =
-    let g = c.requires.next in
-    queued g _ c.enter.ensures _ _ c.released-gone.ensures.1 _ (holds (goal.at.write_waiting-carry-requires-clause-queued c).After-append g)
+pub write_waiting-carry-requires : goal.write_waiting-carry-requires
+write_waiting-carry-requires c =
+    let g = c.requires in
+    queued g _ c.enter.ensures _ _ c.released-gone.ensures.1 _ (holds (goal.at.write_waiting-carry-requires c).After-append g)
 
 pub drop_front-requires : goal.drop_front-requires
 drop_front-requires c =
-    let g = c.requires.next in
-    (omega (arith, few g, c.released-gone.ensures.0), omega (arith, few g, hold_long (goal.at.drop_front-requires c).After-append))
+    let g = c.requires in
+    (omega (arith, few g, c.released-gone.ensures.0), omega (arith, few g))
 
 pub drop_front-requires-2 : goal.drop_front-requires-2
 drop_front-requires-2 c =
-    let g = c.requires.next in
-    (omega (arith, few g, c.released-gone.ensures.0), omega (arith, few g, waiting_long (goal.at.drop_front-requires-2 c).After-enter))
+    let g = c.requires in
+    (omega (arith, few g, c.released-gone.ensures.0), omega (arith, few g))
 
-pub overflow_add-ready : goal.overflow_add-ready
-overflow_add-ready c =
-    let g = c.requires.next in
+pub overflow_add-result : goal.overflow_add-ready
+overflow_add-result c =
+    let g = c.requires in
     let all = ready_then g _ c.enter.ensures _ _ c.released-gone.ensures.1 in
     let most = announced_most g.f g.a (c.args.b + 1) g.bytes in
     omega (arith, all, ready_within true g.f g.a (c.args.b + 1), most, g.few, g.there)
 
 pub returns : goal.returns
 returns c =
-    let at = goal.at.returns c in (
-      c.drop_front.ensures.long ∙ hold_long at.After-append,
-      c.drop_front-2.ensures.long ∙ waiting_long at.After-enter,
-      (λ g.
-          left g _ c.enter.ensures _ _ c.released-gone.ensures.1 _ _ _ _ _ _ _ _ _ _ c.first_byte-first.ensures
-          (omega (arith, c.wide.ensures)) (holds at.After-append g) c.drop_front.ensures c.drop_front-2.ensures c.write_waiting-carry.ensures),
-    )
+    let at = goal.at.returns c in
+    λ g.
+    left g _ c.enter.ensures _ _ c.released-gone.ensures.1 _ _ _ _ _ _ _ _ _ _ c.first_byte-first.ensures
+    (omega (arith, c.from.ensures)) (holds at.After-append g) c.drop_front.ensures c.drop_front-2.ensures c.write_waiting-carry.ensures

@@ -4,11 +4,7 @@ use Rattle.hold.proofs.Adding.{added_as}
 use Rattle.hold_either.proofs.add_block.Goals as goal
 
 pub returns-then-dss : goal.returns-then-dss
-returns-then-dss c =
-    let e = c.add_dss.ensures in
-    (e.0, e.1, added_as c.if-dss.true _ _ _ _ _ _ _ _ _ _ _ _ _ _ _ _ e.2)
+returns-then-dss c = added_as c.if-dss.true _ _ _ _ _ _ _ _ _ _ _ _ _ _ _ _ c.add_dss.ensures
 
 pub returns : goal.returns
-returns c =
-    let e = c.add_ds2.ensures in
-    (e.0, c.requires.long.1, added_as c.if-dss.false _ _ _ _ _ _ _ _ _ _ _ _ _ _ _ _ (e.1 _))
+returns c = added_as c.if-dss.false _ _ _ _ _ _ _ _ _ _ _ _ _ _ _ _ (c.add_ds2.ensures _)

@@ -3,15 +3,15 @@
 use Rattle.hold_either.proofs.Owing.{queue_owed, queue_handed, walk_owed, walk_handed, owing_as, written_as}
 use Rattle.hold_either.proofs.write_owed.Goals as goal
 
-pub write_waiting-requires-clause-queued : goal.write_waiting-requires-clause-queued
-write_waiting-requires-clause-queued c = queue_owed (owing_as c.if-dss.true _ _ _ _ _ _ _ _ c.requires.owing)
+pub write_waiting-requires : goal.write_waiting-requires
+write_waiting-requires c = queue_owed (owing_as c.if-dss.true _ _ _ _ _ _ _ _ c.requires)
 
 pub returns-then-dss : goal.returns-then-dss
 returns-then-dss c =
     written_as c.if-dss.true _ _ _ _ _ _ _ _ _ _ _ _ _ (λ g. queue_handed g _ _ _ _ _ c.write_waiting.ensures)
 
-pub write_walk-requires-clause-walking : goal.write_walk-requires-clause-walking
-write_walk-requires-clause-walking c = walk_owed (owing_as c.if-dss.false _ _ _ _ _ _ _ _ c.requires.owing)
+pub write_walk-requires : goal.write_walk-requires
+write_walk-requires c = walk_owed (owing_as c.if-dss.false _ _ _ _ _ _ _ _ c.requires)
 
 pub returns : goal.returns
 returns c =
