@@ -74,11 +74,9 @@ pub renewed : (partial copied cleared piece : List ℕ) (taken place kept end at
     → kept ≡ taken - place → end ≡ min 512 (taken + length piece - place) → at ≡ place - taken → n ≡ end - kept
     → Leaves partial kept n (λ k. get_or piece (at + k) 0) copied
     → Leaves copied end (512 - end) (λ k. 0) cleared
-    → (length cleared ≡ 512) × ((f : List ℕ) → Joins f partial piece taken place → cleared ≡ bytes_from f place)
-renewed partial copied cleared piece taken place kept end at n long near kept_is end_is at_is n-is copy clear = (
-  clear.long ∙ copy.long ∙ long,
-  renewed_by long (laid taken place (length piece) kept end at n near kept_is end_is at_is n-is) copy clear,
-)
+    → (f : List ℕ) → Joins f partial piece taken place → cleared ≡ bytes_from f place
+renewed partial copied cleared piece taken place kept end at n long near kept_is end_is at_is n-is copy clear =
+    renewed_by long (laid taken place (length piece) kept end at n near kept_is end_is at_is n-is) copy clear
 
 -- a block's bytes stand in a source
 pub record Sourced (f : List ℕ) (place : ℕ) (source : List ℕ) (at : ℕ) : Type 0 where
@@ -145,9 +143,6 @@ module _ (dss : Bool) (a taken : ℕ) (was : Standing) (hold partial waiting pie
 
   -- when the blocks before b have been added
   pub record Turns (b : ℕ) (hold' partial' waiting' : List ℕ) (now : Standing) (out' counts' : List ℕ) : Type 0 where
-    pub hold_long : length hold' ≡ 12288
-    pub partial_long : length partial' ≡ 512
-    pub waiting_long : length waiting' ≡ 66
     pub begun : whole_blocks taken a ≤ b
     pub within : b ≤ whole_blocks (taken + length piece) a
     pub adding : (f : List ℕ) → May f → Adding dss f a taken b hold' waiting' now out out' counts counts'
@@ -155,14 +150,11 @@ module _ (dss : Bool) (a taken : ℕ) (was : Standing) (hold partial waiting pie
 
 module _ {dss : Bool} {a taken : ℕ} {was : Standing} {hold partial waiting piece out counts : List ℕ} where
   -- none has been yet
-  pub turns_begin : (b : ℕ) → b ≡ whole_blocks taken a → (length hold ≡ 12288) × (length partial ≡ 512) × (length waiting ≡ 66)
+  pub turns_begin : (b : ℕ) → b ≡ whole_blocks taken a
       → Turns dss a taken was hold partial waiting piece out counts b hold partial waiting was out counts
-  turns_begin b is long =
+  turns_begin b is =
       rw is
       (record {
-        hold_long = long.0;
-        partial_long = long.1;
-        waiting_long = long.2;
         begun = omega arith;
         within = omega arith;
         adding = λ f m.
@@ -240,18 +232,14 @@ module _ {dss : Bool} {a taken : ℕ} {was : Standing} {hold partial waiting pie
 
     -- block b has been added
     pub turned : b < whole_blocks (taken + length piece) a → {hold'' partial'' waiting'' out'' counts'' : List ℕ} {next : Standing}
-        → (length hold'' ≡ 12288) × (length partial'' ≡ 512) × (length waiting'' ≡ 66)
-        × ((f : List ℕ) → Coming dss f a taken now b (now.ready - was.ready) hold' partial' waiting' piece (length out') (length counts')
+        → ((f : List ℕ) → Coming dss f a taken now b (now.ready - was.ready) hold' partial' waiting' piece (length out') (length counts')
         → Added dss f a (whole_blocks (length f) a) b (now.ready - was.ready) hold'' waiting'' next out' out'' counts' counts'')
         → Turns dss a taken was hold partial waiting piece out counts (b + 1) hold'' partial'' waiting'' next out'' counts''
     turned more added =
         record {
-          hold_long = added.0;
-          partial_long = added.1;
-          waiting_long = added.2;
           begun = omega (arith, v.begun);
           within = omega arith;
-          adding = λ f m. adds more m (added.3 f (comes more m));
+          adding = λ f m. adds more m (added f (comes more m));
           joins = λ f m.
               record {
                 long = m.known.joins.long;

@@ -17,7 +17,8 @@ use Rattle.hold.specs.Held.{base_at, block_fits, fits}
 use Rattle.hold.proofs.Ready.{ds2_ready_is, ready_none, ds2_base, base_within}
 use Rattle.hold.proofs.Front.{fits_each, each_fits}
 use Rattle.blocks.proofs.Headers.{announced_most}
-use Rattle.pieces.specs.Inner.{Joins, Known}
+use Rattle.pieces.specs.Inner.{Joins, Known, Surveys}
+use Rattle.std.specs.Prelude.{Ok}
 use Rattle.pieces.proofs.Sources.{numbers_of}
 
 reach_none : (swap : Bool) → reach swap 0 ≡ 0
@@ -96,26 +97,13 @@ module _ {f partial piece : List ℕ} {taken tail a end first b₀ announced₀ 
               by_equal i b (λ e. rw e (sym fit_here ∙ held)) (λ other. fits_each false f a b passed.fit i (omega arith)));
         }
 
-    pub look_stops : fit ≡ false
-        → (false ≡ fits false f a (whole_blocks (length f) a))
-        × (false ≡ true → announced ≡ announced_in f a (whole_blocks (length f) a))
-        × (0 < whole_blocks (length f) a → first ≡ header_byte f a 0 0)
-    look_stops failed = (
-      sym (unfit f a b _ (omega (arith, begun.end_is)) (sym fit_here ∙ failed)),
-      (λ z. absurd (never z refl)),
-      (λ some. begun.first_is (omega (arith, begun.end_is))),
-    )
+    pub look_stops : fit ≡ false → fits false f a (whole_blocks (length f) a) ≡ false
+    look_stops failed = unfit f a b _ (omega (arith, begun.end_is)) (sym fit_here ∙ failed)
 
-  pub look_ends : b ≤ end → end ≤ b
-      → (true ≡ fits false f a (whole_blocks (length f) a))
-      × (true ≡ true → announced ≡ announced_in f a (whole_blocks (length f) a))
-      × (0 < whole_blocks (length f) a → first ≡ header_byte f a 0 0)
+  pub look_ends : b ≤ end → end ≤ b → Surveys f a (Ok (record { announced = announced; first = first }))
   look_ends within ended =
-      let all : b ≡ whole_blocks (length f) a = omega (arith, begun.end_is) in (
-        sym (rw all at passed.fit),
-        (λ z. rw all at passed.announced_is),
-        (λ some. begun.first_is (omega (arith, begun.end_is))),
-      )
+      let all : b ≡ whole_blocks (length f) a = omega (arith, begun.end_is) in
+      (rw all at passed.fit, rw all at passed.announced_is, λ some. begun.first_is (omega (arith, begun.end_is)))
 
 -- what a reader's numbers say of the blocks before the piece
 module _ {f partial waiting piece : List ℕ} {a taken : ℕ} {was : Standing}

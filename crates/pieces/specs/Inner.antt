@@ -1,13 +1,16 @@
 -- What only contracts of inner functions speak of: inside a piece the bytes joined are those before, of which a reader has the last
 -- block's beginning, and the piece. Assumes nothing.
-use Rattle.std.specs.Prelude.{ℕ, ◌+◌, ◌*◌, ◌-◌, ◌≤◌, ◌<◌, ◌≡◌, List, Bool, true, false, length, get_or, leb}
+use Rattle.std.specs.Prelude.{ℕ, ◌+◌, ◌*◌, ◌-◌, ◌≤◌, ◌<◌, ◌≡◌, List, Bool, true, false, length, get_or, leb, Result, Ok, Err}
 use Rattle.blocks.specs.Places.{limit, whole_blocks, block_at}
-use Rattle.blocks.specs.Headers.{Bytes}
+use Rattle.blocks.specs.Headers.{Bytes, header_byte, announced_in}
+use Rattle.refusals.specs.declared.Refusal.{Refusal}
+use Rattle.refusals.specs.Numbers.{in_numbers, numbered}
 use Rattle.refusals.specs.Said.{Said, answers, refusal, demand}
 use Rattle.hold.specs.declared.Standing.{Standing}
 use Rattle.hold.specs.Ready.{reading_in, ready}
 use Rattle.hold.specs.Held.{block_fits, fits, waiting_at, hold_at}
 use Rattle.hold.specs.Inner.{PartWritten, numbers_at, Stands, brought}
+use Rattle.pieces.specs.declared.survey.Surveyed.{Surveyed}
 use Rattle.pieces.specs.Joined.{bytes_from}
 
 -- f is what was taken before, of which `partial` has the bytes from `tail` on, and the piece
@@ -35,10 +38,13 @@ judged dss f a taken room =
     demand (fits dss f a (whole_blocks (length f) a)) 7 12288
     (demand (leb (gained dss f a taken) room) 8 (gained dss f a taken) (answers (gained dss f a taken)))
 
--- whether something is an answer
-abbrev pub accepts : Said ℕ → Bool
-accepts (answers n) = true
-accepts (refusal why) = false
+-- going over a DS2 piece's blocks finds that all fit, what all blocks announce and the first block's byte 0; or that one does not, which is
+-- refusal 7
+abbrev pub Surveys : List ℕ → ℕ → Result Surveyed Refusal → Type 0
+Surveys f a (Ok found) =
+    (fits false f a (whole_blocks (length f) a) ≡ true) × (found.announced ≡ announced_in f a (whole_blocks (length f) a))
+    × (0 < whole_blocks (length f) a → found.first ≡ header_byte f a 0 0)
+Surveys f a (Err why) = (fits false f a (whole_blocks (length f) a) ≡ false) × (in_numbers why ≡ numbered 7 12288)
 
 -- the hold is known too, every block fits, and there is room
 pub record Able (dss : Bool) (f : List ℕ) (a taken : ℕ) (was : Standing) (hold partial waiting piece : List ℕ) (o c : ℕ) : Type 0 where

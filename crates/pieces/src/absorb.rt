@@ -11,16 +11,15 @@ use hold::Standing;
 
 // Makes of `partial` the 512 bytes from `place` on: those that it has, those of the piece, then zeros.
 fn renew(partial: &mut [u8; 512], piece: &[u8], taken: usize, place: usize)
-    requires { (length partial.old ≡ 512) × (taken + length piece.now ≤ limit) × (taken ≤ place + 512) }
-    ensures { (length partial.new ≡ 512) × ((f : List ℕ) → Joins f partial.old piece.now taken place → partial.new ≡ bytes_from f place) }
+    requires { (taken + length piece.now ≤ limit) × (taken ≤ place + 512) }
+    ensures { (f : List ℕ) → Joins f partial.old piece.now taken place → partial.new ≡ bytes_from f place }
 {
     let all = taken + piece.len();
-    let kept = crate::past(taken, place);
-    let end = tables::lesser(BLOCK, crate::past(all, place));
-    let at = crate::past(place, taken);
-    let n = end - kept;
-    tables::copy(partial, kept, piece, at, n);
-    hold::bytes::clear(partial, end, BLOCK - end);
+    let kept = taken.saturating_sub(place);
+    let end = BLOCK.min(all.saturating_sub(place));
+    let at = place.saturating_sub(taken);
+    tables::copy(partial, kept, piece, at, end - kept);
+    tables::clear(partial, end, BLOCK - end);
 }
 
 // Adds block b of the bytes joined.
@@ -38,9 +37,8 @@ fn take_block(
     out: &mut [u8],
     counts: &mut [u8],
 ) -> Standing
-    requires long { (length hold.old ≡ 12288) × (length partial.old ≡ 512) × (length waiting.old ≡ 66) }
-    requires coming { (f : List ℕ) × Coming dss f a.0 taken was b number hold.old partial.old waiting.old piece.now (length out.old) (length counts.old) }
-    ensures { (length hold.new ≡ 12288) × (length partial.new ≡ 512) × (length waiting.new ≡ 66) × ((f : List ℕ) → Coming dss f a.0 taken was b number hold.old partial.old waiting.old piece.now (length out.old) (length counts.old) → Added dss f a.0 (whole_blocks (length f) a.0) b number hold.new waiting.new result out.old out.new counts.old counts.new) }
+    requires { (f : List ℕ) × Coming dss f a.0 taken was b number hold.old partial.old waiting.old piece.now (length out.old) (length counts.old) }
+    ensures { (f : List ℕ) → Coming dss f a.0 taken was b number hold.old partial.old waiting.old piece.now (length out.old) (length counts.old) → Added dss f a.0 (whole_blocks (length f) a.0) b number hold.new waiting.new result out.old out.new counts.old counts.new }
 {
     let place = a.0 + BLOCK * b;
     if taken <= place {
@@ -63,9 +61,8 @@ fn take_block(
     hold_either::add_block(dss, was, b, hold, waiting, &block, 0, number, out, counts)
 }
 
-// For the crates above. Adds all blocks that are whole with the piece, if it is accepted, and keeps the bytes of the one that is not.
+// For the crates above. Adds all blocks that are whole with an accepted piece, and keeps the bytes of the one that is not.
 pub fn absorb(
-    accepted: bool,
     dss: bool,
     a: FilePlace,
     taken: usize,
@@ -77,26 +74,19 @@ pub fn absorb(
     out: &mut [u8],
     counts: &mut [u8],
 ) -> Standing
-    requires long { (length hold.old ≡ 12288) × (length partial.old ≡ 512) × (length waiting.old ≡ 66) × (a.0 ≤ 1536) }
-    requires able { accepted ≡ true → ((f : List ℕ) × Able dss f a.0 taken was hold.old partial.old waiting.old piece.now (length out.old) (length counts.old)) }
-    ensures refused { accepted ≡ false → (result ≡ was) × (hold.new ≡ hold.old) × (partial.new ≡ partial.old) × (waiting.new ≡ waiting.old) × (out.new ≡ out.old) × (counts.new ≡ counts.old) }
-    ensures taken { accepted ≡ true → (f : List ℕ) → Able dss f a.0 taken was hold.old partial.old waiting.old piece.now (length out.old) (length counts.old) → Absorbed dss f a.0 taken hold.new partial.new waiting.new result out.old out.new counts.old counts.new }
+    requires near { a.0 ≤ 1536 }
+    requires able { (f : List ℕ) × Able dss f a.0 taken was hold.old partial.old waiting.old piece.now (length out.old) (length counts.old) }
+    ensures { (f : List ℕ) → Able dss f a.0 taken was hold.old partial.old waiting.old piece.now (length out.old) (length counts.old) → Absorbed dss f a.0 taken hold.new partial.new waiting.new result out.old out.new counts.old counts.new }
 {
-    if !accepted {
-        return was;
-    }
-    let begin = a.0;
-    let had = was.ready;
+    let begin = blocks::whole_blocks(taken, a);
     let end = blocks::whole_blocks(taken + piece.len(), a);
-    let mut b = blocks::whole_blocks(taken, a);
     let mut standing = was;
-    while b < end {
-        let number = standing.ready - had;
+    for b in begin..end {
+        let number = standing.ready - was.ready;
         standing = take_block(
             dss, a, taken, standing, b, hold, partial, waiting, piece, number, out, counts,
         );
-        b += 1;
     }
-    renew(partial, piece, taken, begin + BLOCK * end);
+    renew(partial, piece, taken, a.0 + BLOCK * end);
     standing
 }

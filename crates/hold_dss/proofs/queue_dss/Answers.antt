@@ -54,7 +54,7 @@ drop_front-requires-2 c =
     let g = c.requires in
     (omega (arith, few g, c.released-gone.ensures.0), omega (arith, few g))
 
-pub overflow_add-result : goal.overflow_add-ready
+pub overflow_add-result : goal.overflow_add-result
 overflow_add-result c =
     let g = c.requires in
     let all = ready_then g _ c.enter.ensures _ _ c.released-gone.ensures.1 in

@@ -6,5 +6,5 @@ use Rattle.pieces.proofs.absorb.renew.Goals as goal
 
 pub returns : goal.returns
 returns c =
-    renewed _ _ _ _ _ _ _ _ _ _ (search rules) (search rules) c.past-kept.ensures (search rules) c.past-at.ensures (search rules)
+    renewed _ _ _ _ _ _ _ _ _ _ (search rules) (search rules) c.saturating_sub-kept.ensures (search rules) c.saturating_sub-at.ensures (search rules)
     c.copy.ensures c.clear.ensures

@@ -9,5 +9,5 @@ pub returns : goal.returns
 returns c =
     λ f a bytes announced first.
     let v = c.reads_within.ensures in
-    let base = c.reach-base.ensures ∙ ap (reach c.flag-swap.result) c.lesser-ready.ensures in
+    let base = c.reach-base.ensures ∙ ap (reach c.flag-swap.result) c.min-ready.ensures in
     rw (base, base_is f a _ _ _ c.reads_within.result _ announced first c.flag-swap.ensures v.0 v.1)
