@@ -11,7 +11,7 @@ use lib.Dec.{eqb}
 use Rattle.tables.proofs.Cases.{by_order, by_test, either_most}
 use Rattle.tables.proofs.Lent.{leaves_none, leaves_over}
 use Rattle.blocks.specs.Places.{Whole, whole_blocks}
-use Rattle.refusals.specs.Said.{Said, answers, result_says}
+use Rattle.refusals.specs.Said.{refusal, Said, answers, result_says}
 use Rattle.refusals.proofs.Said.{by_said}
 use Rattle.sp.specs.Readings.{Reading, carry_at}
 use Rattle.sp.specs.Outcome.{room_in}
@@ -20,15 +20,15 @@ use Rattle.hold.specs.Held.{base_at, fits}
 use Rattle.hold.specs.Inner.{PartWritten, Owing}
 use Rattle.hold.proofs.Front.{fits_each}
 use Rattle.hold.proofs.Longer.{base_grows_in}
-use Rattle.pieces.specs.Inner.{accepts}
 use Rattle.reader.specs.declared.Reader.{Reader}
 use Rattle.reader.specs.State.{State, is_dss, start_of, blocks_in, reading_by, handed, owed, reader_of, header_done, Sound, Reached}
 use Rattle.reader.specs.Calls.{end_by, end_said, after_end, handed_by, Ends}
-use Rattle.reader.proofs.Opened.{standing_of}
+use Rattle.reader.specs.Inner.{standing_of}
 use Rattle.reader.proofs.Ends.{owed_is}
 use Rattle.reader.proofs.Within.{end_within}
 use Rattle.std.specs.Prelude.{Result, Ok, Err}
 use Rattle.refusals.specs.declared.Refusal.{Refusal}
+use Rattle.refusals.specs.declared.Numbers.{Numbers}
 
 -- of blocks that were added one after another none lies past the hold's end
 held_within : (dss : Bool) (f : List ℕ) (a n : ℕ) → (0 < n → Whole f a n) → fits dss f a n ≡ true → 506 * n ≤ base_at dss f a n + 12288
@@ -39,17 +39,6 @@ held_within dss f a n whole fit =
     let last = leb-true (506 * (b + 1)) (base_at dss f a b + 12288) (fits_each dss f a n fit b (omega arith)) in
     omega (arith, last, base_grows_in dss f a b n (omega (arith, whole some)) (omega arith)))
     (λ none. omega arith)
-
--- where none was to come, everything is as it was
-none_came : {reading : Reading} {k carry : ℕ} {out out' counts counts' : List ℕ} (some : ℕ) → some ≡ 0
-    → PartWritten reading k some 0 out out' counts counts' carry → (out' ≡ out) × (counts' ≡ counts) × (carry ≡ carry_at reading k)
-none_came {reading} {k} {carry} {out} {out'} {counts} {counts'} some none w =
-    let v = subst (λ (n : ℕ). PartWritten reading k n 0 out out' counts counts' carry) none w in
-    let same : k + 0 ≡ k = omega arith in (
-      leaves_over v.packets_are ∙ sym (leaves_over (leaves_none out 0 _)),
-      leaves_over v.counts_are ∙ sym (leaves_over (leaves_none counts 0 _)),
-      v.carry_is ∙ ap (carry_at reading) same,
-    )
 
 -- a reader that has handed out so many more
 abbrev pub drained_by : ℕ → ℕ → ℕ → Reader → Reader
@@ -99,30 +88,33 @@ HandsOut r n some out out' counts counts' carry =
     → PartWritten (reading_in (is_dss r.kind) g.f g.a n) (ready (is_dss r.kind) g.f g.a n + r.drained) some 0 out out' counts
     counts' carry
 
--- an end counts the blocks, says what it says by its choice, and hands out as many packets as that is
-pub record Wants (r : Reader) (choice n some : ℕ) (answer : Result ℕ Refusal) (out counts : List ℕ) : Type 0 where
-  pub blocks_are : n ≡ whole_blocks r.taken (start_of r.kind)
+-- an end says what it says by its choice
+pub record Wants (r : Reader) (choice : ℕ) (answer : Result ℕ Refusal) (out counts : List ℕ) : Type 0 where
   pub answer_is : result_says answer
       ≡ end_by choice r.phase (start_of r.kind) r.taken (r.announced - r.ready - r.drained) (room_in out counts)
-  pub some_are : some ≡ handed_by (result_says answer)
 
-module _ {s : State} {r : Reader} (is : r ≡ reader_of s) (sound : Sound s) {choice n some : ℕ} {answer : Result ℕ Refusal} {out counts : List ℕ}
-    (w : Wants r choice n some answer out counts) where
-  many : n ≡ blocks_in s.kind s.bytes
-  many = w.blocks_are ∙ ap (λ (r : Reader). whole_blocks r.taken (start_of r.kind)) is
-
+module _ {s : State} {r : Reader} (is : r ≡ reader_of s) (sound : Sound s) {choice : ℕ} {answer : Result ℕ Refusal} {out counts : List ℕ}
+    (w : Wants r choice answer out counts) where
   says : result_says answer ≡ end_said s choice (room_in out counts)
   says = w.answer_is ∙ cc (is, owed_is s r is)
 
-  -- so many come, if it is answered, and none if it is refused
-  some_by : {said : Said ℕ} → end_said s choice (room_in out counts) ≡ said → some ≡ handed_by said
-  some_by e = w.some_are ∙ ap handed_by (says ∙ e)
+  -- a refused one leaves everything as it was
+  pub end_keeps : {why : Numbers} → result_says answer ≡ refusal why → Ends s choice out out counts counts (record { answer = answer; reader = r })
+  end_keeps {why} e =
+      let said : end_said s choice (room_in out counts) ≡ refusal why = sym says ∙ e in
+      record { steps = rw said (record { answer_is = e; reader_is = is; sound = sound }); hands = rw said (record { out_is = refl; counts_are = refl }) }
+
+-- an answered one counts the blocks, and hands out as many packets as it says
+module _ {s : State} {r : Reader} (is : r ≡ reader_of s) (sound : Sound s) {choice n some : ℕ} {answer : Result ℕ Refusal} {out counts : List ℕ}
+    (w : Wants r choice answer out counts) (e : result_says answer ≡ answers some) (blocks_are : n ≡ whole_blocks r.taken (start_of r.kind)) where
+  many : n ≡ blocks_in s.kind s.bytes
+  many = blocks_are ∙ ap (λ (r : Reader). whole_blocks r.taken (start_of r.kind)) is
+
+  said : end_said s choice (room_in out counts) ≡ answers some
+  said = sym (says is sound w) ∙ e
 
   within : (some ≤ room_in out counts) × (some ≤ owed s)
-  within =
-      by_said (end_said s choice (room_in out counts))
-      (λ n e. let few = end_within sound choice (room_in out counts) e in (omega (arith, some_by e, few.0), omega (arith, some_by e, few.1)))
-      (λ why e. (omega (arith, some_by e), omega (arith, some_by e)))
+  within = let few = end_within sound choice (room_in out counts) said in (few.0, few.1)
 
   -- so much is owed of the bytes joined
   at_state : OwingOf (reader_of s) (blocks_in s.kind s.bytes) some out counts
@@ -149,31 +141,20 @@ module _ {s : State} {r : Reader} (is : r ≡ reader_of s) (sound : Sound s) {ch
       subst (λ (n : ℕ). HandsOut (reader_of s) n some out out' counts counts' carry) many
       (subst (λ (r : Reader). HandsOut r n some out out' counts counts' carry) is law) at_state
 
-  pub end_steps : {carry phase : ℕ} {accepted : Bool} {out' counts' : List ℕ} → HandsOut r n some out out' counts counts' carry
-      → accepted ≡ accepts (result_says answer)
-      → phase ≡ cond accepted (cond (eqb some (r.announced - r.ready - r.drained)) 2 1) r.phase
+  pub end_steps : {carry phase : ℕ} {out' counts' : List ℕ} → HandsOut r n some out out' counts counts' carry
+      → phase ≡ cond (eqb some (r.announced - r.ready - r.drained)) 2 1
       → Ends s choice out out' counts counts' (record { answer = answer; reader = drained_by some carry phase r })
-  end_steps {carry} {phase} {accepted} {out'} {counts'} law accepted-is phase-is =
-      by_said (end_said s choice (room_in out counts))
-      (λ n e.
-      let said : end_said s choice (room_in out counts) ≡ answers some = e ∙ ap answers (sym (some_by e)) in
+  end_steps {carry} {phase} {out'} {counts'} law phase-is =
       record {
         steps =
             rw said
             (record {
-              answer_is = says ∙ said;
-              reader_is = cc (is, phase_by said, carry_on);
-              sound = drained_sound s some sound within.1 (end_within sound choice (room_in out counts) e).2;
+              answer_is = e;
+              reader_is = cc (is, phase_by, carry_on);
+              sound = drained_sound s some sound within.1 (end_within sound choice (room_in out counts) said).2;
             });
         hands = rw said (record { out_is = leaves_over written.packets_are; counts_are = leaves_over written.counts_are });
-      })
-      (λ why e.
-      let kept = none_came some (some_by e) written in
-      let still : s.drained + some ≡ s.drained = omega (arith, some_by e) in
-      record {
-        steps = rw e (record { answer_is = says ∙ e; reader_is = cc (is, phase_by e, kept.2, still); sound = sound });
-        hands = rw e (record { out_is = kept.0; counts_are = kept.1 });
-      })
+      }
     where
       written : PartWritten (reading_by s.kind s.bytes) (handed s) some 0 out out' counts counts' carry
       written = handed_out law
@@ -183,18 +164,18 @@ module _ {s : State} {r : Reader} (is : r ≡ reader_of s) (sound : Sound s) {ch
           let on : handed s + some ≡ handed (after_end s (answers some)) = omega arith in
           written.carry_is ∙ ap (carry_at (reading_by s.kind s.bytes)) on
 
-      phase_by : {said : Said ℕ} → end_said s choice (room_in out counts) ≡ said
-          → phase ≡ cond (accepts said) (cond (eqb some (owed s)) 2 1) s.phase
-      phase_by e = rw (accepted-is ∙ ap accepts (says ∙ e), owed_is s r is, is) at phase-is
+      phase_by : phase ≡ cond (eqb some (owed s)) 2 1
+      phase_by = rw (owed_is s r is) at phase-is
 
 -- so a reader that a call gave back may hand out what is wanted
-pub owing : {r : Reader} {choice n some : ℕ} {answer : Result ℕ Refusal} {out counts : List ℕ} → Reached r → Wants r choice n some answer out counts
-    → OwingOf r n some out counts
-owing {n = n} {some = some} {out = out} {counts = counts} v w =
-    subst (λ (r : Reader). OwingOf r n some out counts) (sym v.is)
-    (subst (λ (m : ℕ). OwingOf (reader_of v.state) m some out counts) (sym (many v.is v.sound w)) (at_state v.is v.sound w))
+module _ {r : Reader} {choice n some : ℕ} {answer : Result ℕ Refusal} {out counts : List ℕ} (v : Reached r) (w : Wants r choice answer out counts)
+    (e : result_says answer ≡ answers some) (blocks_are : n ≡ whole_blocks r.taken (start_of r.kind)) where
+  pub owing : OwingOf r n some out counts
+  owing =
+      subst (λ (r : Reader). OwingOf r n some out counts) (sym v.is)
+      (subst (λ (m : ℕ). OwingOf (reader_of v.state) m some out counts) (sym (many v.is v.sound w e blocks_are))
+      (at_state v.is v.sound w e blocks_are))
 
--- and hands out no more than it owes
-pub end_most : {r : Reader} {choice n some : ℕ} {answer : Result ℕ Refusal} {out counts : List ℕ} → Reached r → Wants r choice n some answer out counts
-    → some ≤ r.announced - r.ready - r.drained
-end_most {r} v w = omega (arith, (within v.is v.sound w).1, owed_is v.state r v.is)
+  -- and hands out no more than it owes
+  pub end_most : some ≤ r.announced - r.ready - r.drained
+  end_most = omega (arith, (within v.is v.sound w e blocks_are).1, owed_is v.state r v.is)

@@ -28,6 +28,8 @@ use Rattle.reader.specs.declared.Reader.{Reader}
 use Rattle.pieces.specs.Joined.{bytes_from}
 use Rattle.reader.specs.State.{State, is_kind, is_dss, start_of, blocks_in, ready_by, handed, reader_of, Sound}
 use Rattle.reader.specs.Calls.{open_said, after_open, Opens}
+use Rattle.reader.specs.Inner.{standing_of, fresh}
+use Rattle.refusals.specs.declared.Refusal.TheVariants.{Kind}
 use Rattle.std.specs.Prelude.{Result, Ok, Err}
 use Rattle.refusals.specs.declared.Refusal.{Refusal}
 
@@ -81,11 +83,8 @@ module _ (dss : Bool) (f : List ℕ) (a m n : ℕ) (none : n ≡ 0) where
   pub none_fits : fits dss f a n ≡ true
   none_fits = each_fits dss f a n (λ b h. absurd (omega arith))
 
--- the numbers beside a reader's hold; and a reader by such, which stands for a state that has drained nothing where all of it stands
+-- a reader by the numbers beside its hold, which stands for a state that has drained nothing where all of it stands
 -- after the state's blocks
-abbrev pub standing_of : Reader → Standing
-standing_of r = record { announced = r.announced; ready = r.ready; base = record { 0 = r.base }; first = r.first; carry = r.carry }
-
 abbrev pub reader_with : ℕ → ℕ → ℕ → ℕ → Standing → List ℕ → List ℕ → List ℕ → Reader
 reader_with kind phase taken drained now hold partial waiting =
     record {
@@ -111,10 +110,7 @@ stands_for s none v kept =
     let all : handed s ≡ ready_by s.kind s.bytes = omega arith in
     rw (v.numbers_are, all) (cc (v.hold_is, v.waiting_is, kept))
 
--- a state with nothing taken, and its reader
-abbrev fresh : ℕ → ℕ → State
-fresh kind phase = record { kind = kind; bytes = []; drained = 0; phase = phase }
-
+-- the reader of a state with nothing taken
 abbrev pub fresh_reader : ℕ → ℕ → Reader
 fresh_reader kind phase = reader_with kind phase 0 0 no_numbers (replicate 12288 0) (replicate 512 0) (replicate 66 0)
 
@@ -132,7 +128,7 @@ module _ (kind phase : ℕ) where
   unfolding bytes_from
   partial_zero = zeros 512 _ (λ i. refl)
 
-  fresh_is : fresh_reader kind phase ≡ reader_of (fresh kind phase)
+  pub fresh_is : fresh_reader kind phase ≡ reader_of (fresh kind phase)
   fresh_is = stands_for (fresh kind phase) refl stands partial_zero
 
   fresh_sound : is_kind kind ≡ true → (phase ≡ 1 → ⊥) → phase ≤ 2 → Sound (fresh kind phase)
@@ -162,16 +158,16 @@ opened_sound kind =
     (λ is. rw is (fresh_sound kind 0 is (λ e. omega arith) (omega arith)))
     (λ is-not. rw is-not (fresh_sound 0 2 ds2_is (λ e. omega arith) (omega arith)))
 
-pub opens : (kind kind' phase : ℕ) (known : Bool) (answer : Result ℕ Refusal) → known ≡ is_kind kind → result_says answer ≡ demand known 10 kind (answers 0)
-    → kind' ≡ cond known kind 0 → phase ≡ cond known 0 2 → Opens kind (record { answer = answer; reader = fresh_reader kind' phase })
-unfolding open_said
-opens kind kind' phase known answer is said kind_is phase-is =
-    by_test known
-    (λ e.
-    let is_such : is_kind kind ≡ true = sym is ∙ e in
-    let sound = rw is_such at (opened_sound kind) in
-    rw (kind_is, phase-is, is_such, e) (record { answer_is = rw e at said; reader_is = fresh_is kind 0; sound = sound }))
-    (λ e.
-    let not_such : is_kind kind ≡ false = sym is ∙ e in
-    let sound = rw not_such at (opened_sound kind) in
-    rw (kind_is, phase-is, not_such, e) (record { answer_is = rw e at said; reader_is = fresh_is 0 2; sound = sound }))
+module _ (kind : ℕ) where
+  pub opens_known : is_kind kind ≡ true → {reader : Reader} → reader ≡ reader_of (fresh kind 0) → Opens kind (record { answer = Ok 0; reader = reader })
+  unfolding open_said
+  opens_known is reader_is =
+      let sound = rw is at (opened_sound kind) in
+      rw is (record { answer_is = refl; reader_is = reader_is; sound = sound })
+
+  pub opens_none : is_kind kind ≡ false → {reader : Reader} → reader ≡ reader_of (fresh 0 2)
+      → Opens kind (record { answer = Err (Kind kind); reader = reader })
+  unfolding open_said
+  opens_none is_not reader_is =
+      let sound = rw is_not at (opened_sound kind) in
+      rw is_not (record { answer_is = refl; reader_is = reader_is; sound = sound })

@@ -1,7 +1,7 @@
 -- A piece, at a state: what stood after the blocks before stands in the bytes joined, so the reader knows what the survey asks and can
 -- take the blocks; what is said of the piece, and the state that it leaves. Assumes nothing.
 use Prim.Native.Nat.{ℕ, ◌+◌, ◌≤◌}
-use mathlib.Core.Path.{◌≡◌, sym, ap, ◌∙◌, subst₂}
+use mathlib.Core.Path.{◌≡◌, refl, sym, ap, ◌∙◌, subst₂}
 use mathlib.Core.List.{List, ◌++◌}
 use mathlib.Core.Bool.{Bool, true, false, cond}
 use native.Mathlib.Omega.{arith}
@@ -29,8 +29,9 @@ use Rattle.reader.specs.declared.Step.{Step}
 use Rattle.pieces.specs.Joined.{bytes_from}
 use Rattle.reader.specs.State.{State, is_dss, start_of, blocks_in, reading_by, ready_by, handed, reader_of, Sound}
 use Rattle.reader.specs.Calls.{brings, piece_said, after_piece, Steps, Hands, Takes}
-use Rattle.pieces.specs.Inner.{Joins, Known, gained, judged, accepts, Able, Absorbed}
-use Rattle.reader.proofs.Opened.{none_stands, none_fits, standing_of, reader_with, stands_for}
+use Rattle.pieces.specs.Inner.{Joins, Known, gained, judged, Able, Absorbed}
+use Rattle.reader.specs.Inner.{standing_of}
+use Rattle.reader.proofs.Opened.{none_stands, none_fits, reader_with, stands_for}
 use Rattle.reader.proofs.Laws.{steps_by, hands_by, piece_accepted, bytes_joined}
 use Rattle.std.specs.Prelude.{Result, Ok, Err}
 use Rattle.refusals.specs.declared.Refusal.{Refusal}
@@ -90,21 +91,11 @@ AbleOf r a piece out counts f =
     Able (is_dss r.kind) f a r.taken (standing_of r) r.hold r.partial r.waiting piece (length out) (length counts)
 
 -- what the survey decides
-pub record Decided (r : Reader) (a : ℕ) (piece out counts : List ℕ) (room : ℕ) (accepted : Bool) (answer : Result ℕ Refusal) : Type 0 where
+pub record Decided (r : Reader) (a : ℕ) (piece out counts : List ℕ) (room : ℕ) (answer : Result ℕ Refusal) : Type 0 where
   pub room_is : room ≡ room_in out counts
-  pub fair : accepted ≡ accepts (result_says answer)
   pub says : (f : List ℕ) → (r.phase ≡ 0 → r.taken + length piece ≤ limit → KnownOf r a piece f)
       → result_says answer
       ≡ demand (eqb r.phase 0) 6 0 (demand (leb (r.taken + length piece) limit) 2 limit (judged (is_dss r.kind) f a r.taken room))
-
--- and what is then taken, or left
-pub record Took (r : Reader) (a : ℕ) (piece : List ℕ) (accepted : Bool) (hold partial waiting : List ℕ) (now : Standing)
-    (out out' counts counts' : List ℕ) (taken : ℕ) : Type 0 where
-  pub refused : accepted ≡ false
-      → (now ≡ standing_of r) × (hold ≡ r.hold) × (partial ≡ r.partial) × (waiting ≡ r.waiting) × (out' ≡ out) × (counts' ≡ counts)
-  pub absorbed : accepted ≡ true → (f : List ℕ) → AbleOf r a piece out counts f
-      → Absorbed (is_dss r.kind) f a r.taken hold partial waiting now out out' counts counts'
-  pub taken_is : taken ≡ cond accepted (r.taken + length piece) r.taken
 
 -- a piece at a state
 module _ (s : State) (piece : List ℕ) (sound : Sound s) (bytes : Bytes piece) where
@@ -177,57 +168,46 @@ module _ (s : State) (piece : List ℕ) (sound : Sound s) (bytes : Bytes piece) 
         phases = sound.phases;
       }
 
-  module _ {out counts : List ℕ} {room : ℕ} {accepted : Bool} {answer : Result ℕ Refusal}
-      (d : Decided (reader_of s) a piece out counts room accepted answer) where
+  module _ {out counts : List ℕ} {room : ℕ} {answer : Result ℕ Refusal} (d : Decided (reader_of s) a piece out counts room answer) where
     said : result_says answer ≡ piece_said s piece (room_in out counts)
     unfolding piece_said judged
     said = d.says f known ∙ cc (gained_is, d.room_is)
 
-    accepted_as : {to : Said ℕ} → piece_said s piece (room_in out counts) ≡ to → accepted ≡ accepts to
-    accepted_as e = d.fair ∙ ap accepts (said ∙ e)
+    settled : {to : Said ℕ} {reader : Reader} {out' counts' : List ℕ} → result_says answer ≡ to → reader ≡ reader_of (after_piece s piece to)
+        → Sound (after_piece s piece to) → Hands (reading_by s.kind f) (handed s) to out out' counts counts'
+        → Takes s piece out out' counts counts' (record { answer = answer; reader = reader })
+    settled {to} {reader} e reader_is next hands =
+        let steps : Steps to (after_piece s piece to) (record { answer = answer; reader = reader }) =
+        record { answer_is = e; reader_is = reader_is; sound = next } in
+        record { steps = steps_by (after_piece s piece) said steps; hands = hands_by said steps hands }
 
-    enabled : accepted ≡ true → AbleOf (reader_of s) a piece out counts f
-    enabled so =
-        by_said (piece_said s piece (room_in out counts)) (λ m e. able out counts e) (λ why e. absurd (never so (accepted_as e)))
+    -- a refused one leaves everything as it was
+    kept : {why : Numbers} → result_says answer ≡ refusal why → Takes s piece out out counts counts (record { answer = answer; reader = reader_of s })
+    kept e = settled e refl sound (record { out_is = refl; counts_are = refl })
 
-    module _ {hold partial waiting out' counts' : List ℕ} {now : Standing} {taken : ℕ}
-        (t : Took (reader_of s) a piece accepted hold partial waiting now out out' counts counts' taken) where
-      abbrev step : Step
-      step = record { answer = answer; reader = reader_with s.kind s.phase taken s.drained now hold partial waiting }
+    -- an accepted one has had all blocks added, and what they brought stands in front
+    module _ {m : ℕ} (e : result_says answer ≡ answers m) where
+      here : piece_said s piece (room_in out counts) ≡ answers m
+      here = sym said ∙ e
 
-      settled : {to : Said ℕ} → piece_said s piece (room_in out counts) ≡ to → step.reader ≡ reader_of (after_piece s piece to)
-          → Sound (after_piece s piece to) → Hands (reading_by s.kind f) (handed s) to out out' counts counts'
-          → Takes s piece out out' counts counts' step
-      settled {to} e reader_is next hands =
-          let steps : Steps to (after_piece s piece to) step = record { answer_is = said ∙ e; reader_is = reader_is; sound = next } in
-          record { steps = steps_by (after_piece s piece) said steps; hands = hands_by said steps hands }
+      enabled : AbleOf (reader_of s) a piece out counts f
+      enabled = able out counts here
 
-      taken_as : {test : Bool} → accepted ≡ test → taken ≡ cond test (length s.bytes + length piece) (length s.bytes)
-      taken_as e = rw e at t.taken_is
-
-      -- a refused one leaves everything as it was
-      kept : {why : Numbers} → piece_said s piece (room_in out counts) ≡ refusal why → Takes s piece out out' counts counts' step
-      kept e =
-          let as_it_was = t.refused (accepted_as e) in
-          settled e (rw as_it_was.0 (cc (as_it_was.1, as_it_was.2, as_it_was.3, taken_as (accepted_as e)))) sound
-          (record { out_is = as_it_was.4; counts_are = as_it_was.5 })
-
-      -- an accepted one has had all blocks added, and what they brought stands in front
-      grown : {m : ℕ} → piece_said s piece (room_in out counts) ≡ answers m → Takes s piece out out' counts counts' step
-      grown {m} e =
-          let p = piece_accepted s piece (room_in out counts) m e in
-          let v = t.absorbed (accepted_as e) f (able out counts e) in
-          let long : taken ≡ length f = taken_as (accepted_as e) ∙ sym (length-append s.bytes piece) in
+      grown : {hold partial waiting out' counts' : List ℕ} {now : Standing}
+          → ((f : List ℕ) → AbleOf (reader_of s) a piece out counts f → Absorbed dss f a (length s.bytes) hold partial waiting now out out' counts counts')
+          → Takes s piece out out' counts counts'
+          (record { answer = answer; reader = reader_with s.kind s.phase (length s.bytes + length piece) s.drained now hold partial waiting })
+      grown {out' = out'} {counts' = counts'} {now = now} absorbed =
+          let p = piece_accepted s piece (room_in out counts) m here in
+          let v = absorbed f enabled in
+          let long : length s.bytes + length piece ≡ length f = sym (length-append s.bytes piece) in
           let first : ready dss f a had ≡ handed s = sym (none_drained p.0 ∙ ready_on) in
           let written =
           subst₂ (λ (k m : ℕ). PartWritten (reading_by s.kind f) k m 0 out out' counts counts' now.carry) first (gained_is ∙ p.1)
           v.added.written in
           settled e (rw long (stands_for (after_piece s piece (answers m)) (sound.taking p.0) v.added.stands v.partial_is))
-          (next_sound (room_in out counts) e)
+          (next_sound (room_in out counts) here)
           (record { out_is = leaves_over written.packets_are; counts_are = leaves_over written.counts_are })
-
-      takes_at : Takes s piece out out' counts counts' step
-      takes_at = by_said (piece_said s piece (room_in out counts)) (λ m e. grown e) (λ why e. kept e)
 
 -- the same of the reader that stands for the state
 module _ (s : State) {r : Reader} {a : ℕ} (is : r ≡ reader_of s) (a-is : a ≡ start_of r.kind) where
@@ -240,23 +220,34 @@ module _ (s : State) {r : Reader} {a : ℕ} (is : r ≡ reader_of s) (a-is : a �
         at (λ (r : Reader) (a : ℕ). r.phase ≡ 0 → r.taken + length piece ≤ limit → (f : List ℕ) × KnownOf r a piece f)
         (λ taking within. (s.bytes ++ piece, known s piece sound bytes taking within))
 
-    module _ {out counts : List ℕ} {room : ℕ} {accepted : Bool} {answer : Result ℕ Refusal} (d : Decided r a piece out counts room accepted answer) where
-      pub enables : accepted ≡ true → (f : List ℕ) × AbleOf r a piece out counts f
-      enables =
-          at
-          (λ (r : Reader) (a : ℕ).
-          Decided r a piece out counts room accepted answer → accepted ≡ true → (f : List ℕ) × AbleOf r a piece out counts f)
-          (λ d so. (s.bytes ++ piece, enabled s piece sound bytes d so)) d
+    module _ {out counts : List ℕ} {room : ℕ} {answer : Result ℕ Refusal} (d : Decided r a piece out counts room answer) where
+      pub enables : {m : ℕ} → result_says answer ≡ answers m → (f : List ℕ) × AbleOf r a piece out counts f
+      enables e =
+          at (λ (r : Reader) (a : ℕ). Decided r a piece out counts room answer → (f : List ℕ) × AbleOf r a piece out counts f)
+          (λ d. (s.bytes ++ piece, enabled s piece sound bytes d e)) d
 
-      pub takes : {hold partial waiting out' counts' : List ℕ} {now : Standing} {taken : ℕ}
-          → Took r a piece accepted hold partial waiting now out out' counts counts' taken
-          → Takes s piece out out' counts counts'
-          (record { answer = answer; reader = reader_with r.kind r.phase taken r.drained now hold partial waiting })
-      takes {hold} {partial} {waiting} {out'} {counts'} {now} {taken} =
+      -- the bytes taken are within the limit then
+      pub few_taken : {m : ℕ} → result_says answer ≡ answers m → r.taken + length piece ≤ limit
+      few_taken {m} e =
+          at (λ (r : Reader) (a : ℕ). Decided r a piece out counts room answer → r.taken + length piece ≤ limit)
+          (λ d. (piece_accepted s piece (room_in out counts) m (here s piece sound bytes d e)).3) d
+
+      pub keeps : {why : Numbers} → result_says answer ≡ refusal why → Takes s piece out out counts counts (record { answer = answer; reader = r })
+      keeps e =
           at
           (λ (r : Reader) (a : ℕ).
-          Decided r a piece out counts room accepted answer
-          → Took r a piece accepted hold partial waiting now out out' counts counts' taken
+          Decided r a piece out counts room answer → Takes s piece out out counts counts (record { answer = answer; reader = r }))
+          (λ d. kept s piece sound bytes d e) d
+
+      pub takes : {m : ℕ} → result_says answer ≡ answers m → {hold partial waiting out' counts' : List ℕ} {now : Standing}
+          → ((f : List ℕ) → AbleOf r a piece out counts f → Absorbed (is_dss r.kind) f a r.taken hold partial waiting now out out' counts counts')
           → Takes s piece out out' counts counts'
-          (record { answer = answer; reader = reader_with r.kind r.phase taken r.drained now hold partial waiting }))
-          (λ d t. takes_at s piece sound bytes d t) d
+          (record { answer = answer; reader = reader_with r.kind r.phase (r.taken + length piece) r.drained now hold partial waiting })
+      takes e {hold} {partial} {waiting} {out'} {counts'} {now} absorbed =
+          at
+          (λ (r : Reader) (a : ℕ).
+          Decided r a piece out counts room answer
+          → ((f : List ℕ) → AbleOf r a piece out counts f → Absorbed (is_dss r.kind) f a r.taken hold partial waiting now out out' counts counts')
+          → Takes s piece out out' counts counts'
+          (record { answer = answer; reader = reader_with r.kind r.phase (r.taken + length piece) r.drained now hold partial waiting }))
+          (λ d absorbed. grown s piece sound bytes d e absorbed) d absorbed

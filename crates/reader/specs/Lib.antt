@@ -4,3 +4,5 @@ pub mod Calls
 pub mod History
 pub mod Agreement
 pub mod Complete
+-- what only contracts of inner functions speak of
+pub mod Inner

@@ -4,24 +4,28 @@
 #![tactic(auto)]
 
 ghost use Rattle.std.specs.Prelude.{◌≡◌, true, cond, ◌+◌, ◌-◌, ◌/◌, ◌%◌, ◌≤◌, ◌<◌, ◌^◌, min, eqb, leb};
-ghost use Rattle.refusals.specs.Said.{answers, demand};
-ghost use Rattle.sp.specs.Outcome.{demuxed_says};
-ghost use Rattle.reader.specs.State.{is_kind, start_of, Reached};
-ghost use Rattle.reader.specs.Calls.{strict_by, lenient_by, end_by, handed_by, Opens};
+ghost use Rattle.refusals.specs.Said.{result_says};
+ghost use Rattle.reader.specs.State.{is_kind, start_of, reader_of, Reached};
+ghost use Rattle.reader.specs.Inner.{standing_of, fresh};
+ghost use Rattle.reader.specs.Calls.{strict_by, lenient_by, end_by, Opens};
 ghost use Rattle.reader.specs.History.{PieceCall, EndCall, OwedCall};
-ghost use Rattle.pieces.specs.Inner.{accepts};
 
 use blocks::{BLOCK, FilePlace, StreamPlace};
 use hold::Standing;
 use packets::PACKET;
-use pieces::Verdict;
 use refusals::Refusal;
-use sp::Demuxed;
 
 // The two ends, as `end` takes them.
 pub const STRICT: u64 = 0;
 
 pub const LENIENT: u64 = 1;
+
+// The phases.
+const TAKES: u64 = 0;
+
+const DRAINS: u64 = 1;
+
+const ENDED: u64 = 2;
 
 // A reader by value: each call takes it and hands the next one back. All fields are numbers or arrays of them. `kind` is 0 for DS2 and 2
 // or 3 for DSS; `phase` is 0 while it takes pieces, 1 while it drains, 2 when it has ended. Then: bytes taken, frames announced, packets
@@ -47,152 +51,101 @@ pub struct Reader {
 // A call's answer, and the reader to go on with.
 #[derive(Clone, Copy)]
 pub struct Step {
-    pub answer: Demuxed,
+    pub answer: Result<usize, Refusal>,
     pub reader: Reader,
 }
 
+#[tactic(auto, unfolding(crate::specs::State::is_kind))]
 fn is_kind(kind: u64) -> bool
     ensures { result ≡ is_kind kind }
 {
-    if kind == 0 {
-        return true;
-    }
-    if kind == 2 {
-        return true;
-    }
-    kind == 3
+    kind == 0 || kind == 2 || kind == 3
 }
 
 // Where the audio of a kind starts.
+#[tactic(auto, unfolding(crate::specs::State::is_kind, crate::specs::State::start_of))]
 fn start_of(kind: u64) -> FilePlace
     requires { is_kind kind ≡ true }
     ensures { (result.0 ≡ start_of kind) × (result.0 ≤ 1536) }
 {
-    if kind == 2 {
-        return FilePlace(1024);
-    }
-    FilePlace(1536)
-}
-
-fn chosen(test: bool, one: u64, other: u64) -> u64
-    ensures { result ≡ cond test one other }
-{
-    if test { one } else { other }
-}
-
-fn opening(known: bool, kind: u64) -> Demuxed
-    ensures { demuxed_says result ≡ demand known 10 kind (answers 0) }
-{
-    if known {
-        return Demuxed::Packets(0);
-    }
-    Demuxed::Refused(Refusal::kind(kind))
+    FilePlace(if kind == 2 { 1024 } else { 1536 })
 }
 
 // How many of the packets of an output and a count table of these lengths there is room for.
 fn room_for(out: usize, counts: usize) -> usize
     ensures { result ≡ min (out / 42) counts }
 {
-    tables::lesser(out / PACKET, counts)
-}
-
-// How many bytes are taken with a piece, if it is accepted.
-fn taken_with(accepted: bool, taken: usize, piece: usize) -> usize
-    requires { taken + piece < 2 ^ 64 }
-    ensures { result ≡ cond accepted (taken + piece) taken }
-{
-    if accepted {
-        return taken + piece;
-    }
-    taken
+    counts.min(out / PACKET)
 }
 
 // No input yet, or a full header.
 fn header_done(taken: usize, a: FilePlace) -> bool
     ensures { result ≡ cond (eqb taken 0) true (leb a.0 taken) }
 {
-    if taken == 0 {
-        return true;
-    }
-    a.0 <= taken
+    taken == 0 || a.0 <= taken
 }
 
 // What the strict end says, by the phase and so many bytes taken and frames owed.
-fn strict(phase: u64, a: FilePlace, taken: usize, owed: usize) -> Verdict
-    ensures { (demuxed_says result.answer ≡ strict_by phase a.0 taken owed) × (result.accepted ≡ accepts (demuxed_says result.answer)) }
+#[tactic(auto, unfolding(crate::specs::Calls::strict_by))]
+fn strict(phase: u64, a: FilePlace, taken: usize, owed: usize) -> Result<usize, Refusal>
+    ensures { result_says result ≡ strict_by phase a.0 taken owed }
 {
-    if phase == 1 {
-        return pieces::refused(Refusal::ended());
+    if phase == DRAINS {
+        return Err(Refusal::Ended);
     }
-    if phase == 2 {
-        return pieces::accepted(0);
+    if phase == ENDED {
+        return Ok(0);
     }
     if !header_done(taken, a) {
-        return pieces::refused(Refusal::header(a));
+        return Err(Refusal::Header(a));
     }
-    let inside = pieces::past(taken, a.0) % BLOCK;
+    let inside = taken.saturating_sub(a.0) % BLOCK;
     if inside != 0 {
-        return pieces::refused(Refusal::inside(inside));
+        return Err(Refusal::Inside(inside));
     }
     if owed != 0 {
-        return pieces::refused(Refusal::owed(owed));
+        return Err(Refusal::Owed(owed));
     }
-    pieces::accepted(0)
+    Ok(0)
 }
 
 // What the lenient end says, by so many bytes taken, frames owed and packets that there is room for.
-fn lenient(a: FilePlace, taken: usize, owed: usize, room: usize) -> Verdict
-    ensures { (demuxed_says result.answer ≡ lenient_by a.0 taken owed room) × (result.accepted ≡ accepts (demuxed_says result.answer)) }
+#[tactic(auto, unfolding(crate::specs::Calls::lenient_by))]
+fn lenient(a: FilePlace, taken: usize, owed: usize, room: usize) -> Result<usize, Refusal>
+    ensures { result_says result ≡ lenient_by a.0 taken owed room }
 {
-    if header_done(taken, a) {
-        return pieces::accepted(tables::lesser(room, owed));
+    if !header_done(taken, a) {
+        return Err(Refusal::Header(a));
     }
-    pieces::refused(Refusal::header(a))
+    Ok(room.min(owed))
 }
 
 // What an end says, by which of the two is meant.
-fn decide(choice: u64, phase: u64, a: FilePlace, taken: usize, owed: usize, room: usize) -> Verdict
-    ensures { (demuxed_says result.answer ≡ end_by choice phase a.0 taken owed room) × (result.accepted ≡ accepts (demuxed_says result.answer)) }
+fn decide(
+    choice: u64,
+    phase: u64,
+    a: FilePlace,
+    taken: usize,
+    owed: usize,
+    room: usize,
+) -> Result<usize, Refusal>
+    ensures { result_says result ≡ end_by choice phase a.0 taken owed room }
 {
-    if choice == STRICT {
-        return strict(phase, a, taken, owed);
+    match choice {
+        STRICT => strict(phase, a, taken, owed),
+        LENIENT => lenient(a, taken, owed, room),
+        _ => Err(Refusal::Choice),
     }
-    if choice == LENIENT {
-        return lenient(a, taken, owed, room);
-    }
-    pieces::refused(Refusal::choice())
-}
-
-// How many packets an answer hands out.
-fn handed_by(answer: Demuxed) -> usize
-    ensures { result ≡ handed_by (demuxed_says answer) }
-{
-    match answer {
-        Demuxed::Packets(n) => n,
-        Demuxed::Refused(_) => 0,
-    }
-}
-
-// The phase after an end that hands out so many of the packets owed, if it is answered.
-fn end_phase(accepted: bool, phase: u64, some: usize, owed: usize) -> u64
-    ensures { result ≡ cond accepted (cond (eqb some owed) 2 1) phase }
-{
-    if !accepted {
-        return phase;
-    }
-    if some == owed { 2 } else { 1 }
 }
 
 impl Reader {
-    // A fresh reader of a kind; or refusal 10 with that kind, and an ended reader of kind 0.
-    pub fn open(kind: u64) -> Step
-        ensures { Opens kind result }
+    // A reader of a kind that has taken nothing.
+    fn empty(kind: u64, phase: u64) -> Self
+        ensures { result ≡ reader_of (fresh kind phase) }
     {
-        let known = is_kind(kind);
-        let answer = opening(known, kind);
-        let reader = Reader {
-            kind: chosen(known, kind, 0),
-            phase: chosen(known, 0, 2),
+        Self {
+            kind,
+            phase,
             taken: 0,
             announced: 0,
             ready: 0,
@@ -203,9 +156,39 @@ impl Reader {
             hold: [0u8; 12288],
             partial: [0u8; 512],
             waiting: [0u8; 66],
-        };
-        Step { answer, reader }
+        }
     }
+
+    // The numbers beside the hold.
+    fn standing(&self) -> Standing
+        ensures { result ≡ standing_of self.now }
+    {
+        Standing {
+            announced: self.announced,
+            ready: self.ready,
+            base: StreamPlace(self.base),
+            first: self.first,
+            carry: self.carry,
+        }
+    }
+
+    // A fresh reader of a kind; or refusal 10 with that kind, and an ended reader of kind 0.
+    #[tactic(auto, using(crate::proofs::Opened::opens_known, crate::proofs::Opened::opens_none), unfolding(crate::specs::State::is_kind))]
+    pub fn open(kind: u64) -> Step
+        ensures { Opens kind result }
+    {
+        if !is_kind(kind) {
+            return Step {
+                answer: Err(Refusal::Kind(kind)),
+                reader: Self::empty(0, ENDED),
+            };
+        }
+        Step {
+            answer: Ok(0),
+            reader: Self::empty(kind, TAKES),
+        }
+    }
+
     // A whole piece, or a refusal with everything as it was: 6, 2, 7 or 8.
     pub fn piece(mut self, piece: &[u8], out: &mut [u8], counts: &mut [u8]) -> Step
         requires { Reached self }
@@ -213,50 +196,45 @@ impl Reader {
     {
         let dss = self.kind != 0;
         let a = start_of(self.kind);
-        let taken = self.taken;
-        let was = Standing {
-            announced: self.announced,
-            ready: self.ready,
-            base: StreamPlace(self.base),
-            first: self.first,
-            carry: self.carry,
-        };
-        let mut hold = self.hold;
-        let mut partial = self.partial;
-        let mut waiting = self.waiting;
+        let was = self.standing();
         let room = room_for(out.len(), counts.len());
-        let verdict = pieces::survey::decide(
-            dss, a, self.phase, taken, was, &partial, &waiting, piece, room,
-        );
-        let accepted = verdict.accepted;
-        let now = pieces::absorb::absorb(
-            accepted,
+        let answer = pieces::survey::decide(
             dss,
             a,
-            taken,
+            self.phase,
+            self.taken,
             was,
-            &mut hold,
-            &mut partial,
-            &mut waiting,
+            &self.partial,
+            &self.waiting,
             piece,
-            out,
-            counts,
+            room,
         );
-        self.hold = hold;
-        self.partial = partial;
-        self.waiting = waiting;
-        self.taken = taken_with(accepted, taken, piece.len());
-        self.announced = now.announced;
-        self.ready = now.ready;
-        self.base = now.base.0;
-        self.first = now.first;
-        self.carry = now.carry;
-        let answer = verdict.answer;
+        if answer.is_ok() {
+            let now = pieces::absorb::absorb(
+                dss,
+                a,
+                self.taken,
+                was,
+                &mut self.hold,
+                &mut self.partial,
+                &mut self.waiting,
+                piece,
+                out,
+                counts,
+            );
+            self.taken += piece.len();
+            self.announced = now.announced;
+            self.ready = now.ready;
+            self.base = now.base.0;
+            self.first = now.first;
+            self.carry = now.carry;
+        }
         Step {
             answer,
             reader: self,
         }
     }
+
     // Ends the reader, strictly or leniently as the choice has it, and refuses any other choice by 22. The strict end hands out nothing; it is
     // answered if there is a full header, whole blocks only and no frame owed, or refuses: 6, 3, 13 or 14. The lenient end drops a block that is
     // not whole and hands out the packets that are owed, zeros past the stream's end, as many as there is room for; or refuses by 3. While some
@@ -267,29 +245,26 @@ impl Reader {
     {
         let dss = self.kind != 0;
         let a = start_of(self.kind);
-        let taken = self.taken;
-        let was = Standing {
-            announced: self.announced,
-            ready: self.ready,
-            base: StreamPlace(self.base),
-            first: self.first,
-            carry: self.carry,
-        };
-        let drained = self.drained;
-        let owed = was.announced - was.ready - drained;
+        let was = self.standing();
+        let owed = self.announced - self.ready - self.drained;
         let room = room_for(out.len(), counts.len());
-        let verdict = decide(choice, self.phase, a, taken, owed, room);
-        let answer = verdict.answer;
-        let some = handed_by(answer);
-        let blocks = blocks::whole_blocks(taken, a);
-        let waiting = self.waiting;
-        // what is to come: nothing where the end is strict or refused
-        let carry = hold_either::write_owed(
-            dss, was, blocks, drained, some, &self.hold, &waiting, out, counts,
-        );
-        self.carry = carry;
-        self.drained = drained + some;
-        self.phase = end_phase(verdict.accepted, self.phase, some, owed);
+        let answer = decide(choice, self.phase, a, self.taken, owed, room);
+        if let Ok(some) = answer {
+            let blocks = blocks::whole_blocks(self.taken, a);
+            self.carry = hold_either::write_owed(
+                dss,
+                was,
+                blocks,
+                self.drained,
+                some,
+                &self.hold,
+                &self.waiting,
+                out,
+                counts,
+            );
+            self.drained += some;
+            self.phase = if some == owed { ENDED } else { DRAINS };
+        }
         Step {
             answer,
             reader: self,

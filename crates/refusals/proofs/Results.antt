@@ -1,6 +1,8 @@
 -- A refusal is known by its numbers, and so a call's answer by what it says: two that say the same are the same.
 -- Assumes nothing.
-use Rattle.std.specs.Prelude.{ℕ, ◌≡◌, List, cond, eqb, Result, Ok, Err}
+use Rattle.std.specs.Prelude.{ℕ, ◌≡◌, List, true, false, cond, eqb, Result, Ok, Err}
+use Rattle.std.specs.Result.{is_ok}
+use Rattle.tables.proofs.Cases.{never}
 use mathlib.Core.Path.{refl, ap, sym, ◌∙◌}
 use Rattle.refusals.specs.declared.Refusal.{Refusal}
 use Rattle.refusals.specs.declared.Refusal.TheVariants.{Magic, Limit, Header, Selector, Record, Ended, Overflow, Room, Segments, Kind, OtherKind, Absent, Inside, Owed, Supplied, Packet, TooLong, Beyond, Index, IndexVersion, IndexEntry, Choice}
@@ -77,3 +79,12 @@ only_result x y said p q = only_one result_says result_from result_back x y said
 pub only_result_with : {A : Type 0} {x y : Result A Refusal} {said : Said A} {a a' b b' m n : List ℕ} → result_says x ≡ said
     → result_says y ≡ said → a ≡ m → a' ≡ m → b ≡ n → b' ≡ n → ◌≡◌ {A = Result A Refusal × List ℕ × List ℕ} (x, a, b) (y, a', b')
 only_result_with p q a a' b b' = only_outcome_of result_says result_from result_back p q a a' b b'
+
+-- an `Ok` answers, and an `Err` refuses
+pub ok_says : {A : Type 0} (x : Result A Refusal) → true ≡ is_ok x → (a : A) × (result_says x ≡ answers a)
+ok_says (Ok a) e = (a, refl)
+ok_says (Err why) e = absurd (never (sym e) refl)
+
+pub err_says : {A : Type 0} (x : Result A Refusal) → false ≡ is_ok x → (why : Numbers) × (result_says x ≡ refusal why)
+err_says (Ok a) e = absurd (never refl (sym e))
+err_says (Err why) e = (in_numbers why, refl)

@@ -1,0 +1,14 @@
+-- What only contracts of inner functions speak of: the numbers beside a reader's hold, and a state with nothing taken.
+-- Assumes nothing.
+use Rattle.std.specs.Prelude.{ℕ, []}
+use Rattle.hold.specs.declared.Standing.{Standing}
+use Rattle.reader.specs.declared.Reader.{Reader}
+use Rattle.reader.specs.State.{State}
+
+-- the numbers beside a reader's hold
+abbrev pub standing_of : Reader → Standing
+standing_of r = record { announced = r.announced; ready = r.ready; base = record { 0 = r.base }; first = r.first; carry = r.carry }
+
+-- of this kind and phase, with nothing taken
+abbrev pub fresh : ℕ → ℕ → State
+fresh kind phase = record { kind = kind; bytes = []; drained = 0; phase = phase }
