@@ -49,15 +49,13 @@ pub fn klov_version() -> u64
 pub fn klov_detect_format(file: &[u8]) -> u8
     ensures { result ≡ format_number (detected file.now) }
 {
-    let format = detect::detect_format(file);
-    numbers::of_format(format)
+    numbers::of_format(detect::detect_format(file))
 }
 
 pub fn klov_detect_ds2_audio_start(file: &[u8]) -> usize
     ensures { result ≡ audio_start file.now }
 {
-    let start = detect::ds2::detect_ds2_audio_start(file);
-    start.0
+    detect::ds2::detect_ds2_audio_start(file).0
 }
 
 pub fn klov_detect_ds2_format_type(file: &[u8], header_size: usize) -> u8
@@ -69,64 +67,56 @@ pub fn klov_detect_ds2_format_type(file: &[u8], header_size: usize) -> u8
 pub fn klov_is_ds2_audio_block_header(header: &[u8]) -> u8
     ensures { result ≡ truth_number (good_header header.now) }
 {
-    let good = detect::ds2::is_ds2_audio_block_header(header);
-    numbers::of_truth(good)
+    numbers::of_truth(detect::ds2::is_ds2_audio_block_header(header))
 }
 
 // First: the file place of the block's 506 bytes.
 pub fn klov_payload(file: &[u8], block: usize) -> Answer
     ensures { result ≡ one_number (payload_place file.now block) }
 {
-    let answer = whole::payload_place(file, block);
-    numbers::of_payload(answer)
+    Answer::from(whole::payload_place(file, block))
 }
 
 // First: packets.
 pub fn klov_demux_dss(file: &[u8], out: &mut [u8], counts: &mut [u8]) -> Answer
     ensures { SpCarries (dss_reading file.now) out.old out.new counts.old counts.new result }
 {
-    let answer = sp::demux_dss(file, out, counts);
-    numbers::of_packets(answer)
+    Answer::from(sp::demux_dss(file, out, counts))
 }
 
 // First: packets.
 pub fn klov_demux_ds2_sp(file: &[u8], out: &mut [u8], counts: &mut [u8]) -> Answer
     ensures { SpCarries (ds2_reading file.now) out.old out.new counts.old counts.new result }
 {
-    let answer = sp::demux_ds2(file, out, counts);
-    numbers::of_packets(answer)
+    Answer::from(sp::demux_ds2(file, out, counts))
 }
 
 // First: 1, the packet of that number.
 pub fn klov_ds2_sp_packet(file: &[u8], number: usize, out: &mut [u8], counts: &mut [u8]) -> Answer
     ensures { SpCarries (packet_reading file.now number) out.old out.new counts.old counts.new result }
 {
-    let answer = at_once::ds2_sp_packet(file, number, out, counts);
-    numbers::of_packets(answer)
+    Answer::from(at_once::ds2_sp_packet(file, number, out, counts))
 }
 
 // First: segments. Second: frames announced.
 pub fn klov_demux_ds2_qp(file: &[u8], table: &mut [u32]) -> Answer
     ensures { QpCarries (qp_reading file.now) table.old table.new result }
 {
-    let answer = qp::demux_ds2_qp(file, table);
-    numbers::of_segments(answer)
+    Answer::from(qp::demux_ds2_qp(file, table))
 }
 
 // First: records. Second: segments.
 pub fn klov_demux_ds2_qp7(file: &[u8], records: &mut [u32], segments: &mut [u32]) -> Answer
     ensures { Qp7Carries (qp7_reading file.now) records.old records.new segments.old segments.new result }
 {
-    let answer = qp7::demux_ds2_qp7(file, records, segments);
-    numbers::of_records(answer)
+    Answer::from(qp7::demux_ds2_qp7(file, records, segments))
 }
 
 // Frame k of a segment that has so many bytes from a start on. First: its place in the payload stream. Second: its size, 0 when missing.
 pub fn klov_frame(start: u64, length: u64, k: u64) -> Answer
     ensures { result ≡ found_numbers (frame_of start length k) }
 {
-    let found = frames::frame(StreamPlace(start as usize), length as usize, k as usize);
-    numbers::of_found(found)
+    Answer::from(frames::frame(StreamPlace(start as usize), length as usize, k as usize))
 }
 
 // Fills the scratch where the frame crosses a block. First 0: the frame is the file's bytes from file place second on. First 1: it is the
@@ -134,34 +124,29 @@ pub fn klov_frame(start: u64, length: u64, k: u64) -> Answer
 pub fn klov_fetch(file: &[u8], stream_place: usize, size: usize, scratch: &mut [u8]) -> Answer
     ensures { FillCarries file.now stream_place size scratch.old scratch.new result }
 {
-    let answer = frames::fill(file, StreamPlace(stream_place), size, scratch);
-    numbers::of_stand(answer)
+    Answer::from(frames::fill(file, StreamPlace(stream_place), size, scratch))
 }
 
 // The same answer as klov_fetch's, with a scratch that is only read.
 pub fn klov_show(file: &[u8], stream_place: usize, size: usize, scratch: &[u8]) -> Answer
     ensures { result ≡ stand_numbers (standing (fetch_from file.now stream_place size (length scratch.now)) stream_place size) }
 {
-    let answer = frames::frame_place(file, StreamPlace(stream_place), size, scratch.len());
-    numbers::of_stand(answer)
+    Answer::from(frames::frame_place(file, StreamPlace(stream_place), size, scratch.len()))
 }
 
 pub fn klov_tally(file: &[u8]) -> Tallied
     ensures { result ≡ tally_numbers (tallied file.now) }
 {
-    let answer = tally::tally(file);
-    numbers::of_tally(answer)
+    Tallied::from(tally::tally(file))
 }
 
 pub fn klov_open(kind: u64) -> Opened
     ensures { OpenCarries kind result }
 {
     let step = Reader::open(kind);
-    let answer = step.answer;
-    let reader = step.reader;
     Opened {
-        answer: numbers::of_packets(answer),
-        reader,
+        answer: Answer::from(step.answer),
+        reader: step.reader,
     }
 }
 
@@ -189,31 +174,27 @@ pub fn klov_end(reader: &mut Reader, choice: u64, out: &mut [u8], counts: &mut [
 pub fn klov_write_ds2_sp(header: &[u8], packets: &[u8], out: &mut [u8]) -> Answer
     ensures { WriteCarries header.now packets.now out.old out.new result }
 {
-    let answer = writing::write_ds2_sp(header, packets, out);
-    numbers::of_written(answer)
+    Answer::from(writing::write_ds2_sp(header, packets, out))
 }
 
 // First: bytes of the index. Second: entries.
 pub fn klov_build_index(file: &[u8], out: &mut [u8]) -> Answer
     ensures { BuildCarries (contents_of file.now) out.old out.new result }
 {
-    let answer = index::build_index(file, out);
-    numbers::of_built(answer)
+    Answer::from(index::build_index(file, out))
 }
 
 // First: entries. Second: packets in all.
 pub fn klov_read_index(file: &[u8], index: &[u8]) -> Answer
     ensures { result ≡ read_numbers (totalled (index_read file.now index.now)) }
 {
-    let answer = index::read_index(file, index);
-    numbers::of_read(answer)
+    Answer::from(index::read_index(file, index))
 }
 
 pub fn klov_find_entry(file: &[u8], index: &[u8], packet: usize) -> Entry
     ensures { result ≡ entry_numbers (entry_found file.now index.now packet) }
 {
-    let answer = finding::find_entry(file, index, packet);
-    numbers::of_entry(answer)
+    Entry::from(finding::find_entry(file, index, packet))
 }
 
 // First: 1, the packet of that number.
@@ -226,6 +207,5 @@ pub fn klov_dss_packet(
 ) -> Answer
     ensures { SpCarries (packet_found file.now index.now packet) out.old out.new counts.old counts.new result }
 {
-    let answer = finding::dss_packet(file, index, packet, out, counts);
-    numbers::of_packets(answer)
+    Answer::from(finding::dss_packet(file, index, packet, out, counts))
 }

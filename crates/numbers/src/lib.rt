@@ -2,29 +2,21 @@
 // enums of those crates.
 #![tactic(auto)]
 
-ghost use Rattle.std.specs.Prelude.{◌≡◌};
-ghost use Rattle.refusals.specs.Said.{answers, refusal};
-ghost use Rattle.whole.specs.Payload.{payload_says};
-ghost use Rattle.sp.specs.Outcome.{demuxed_says};
-ghost use Rattle.qp.specs.Outcome.{demuxed_says as qpSays};
-ghost use Rattle.qp7.specs.Outcome.{demuxed_says as qp7Says};
-ghost use Rattle.frames.specs.Fetch.{fetched_says};
-ghost use Rattle.tally.specs.Tallies.{tallied_says};
-ghost use Rattle.writing.specs.Outcome.{written_says};
-ghost use Rattle.index.specs.Outcome.{built_says, read_says};
-ghost use Rattle.finding.specs.Finding.{found_says};
+ghost use Rattle.std.specs.Prelude.{◌≡◌, ℕ};
+ghost use Rattle.refusals.specs.Numbers.{in_numbers};
+ghost use Rattle.refusals.specs.Said.{result_says};
+ghost use Rattle.frames.specs.Fetch.{stand_of};
 ghost use Rattle.reader.specs.State.{Reached};
 ghost use Rattle.reader.specs.History.{OwedCall};
-ghost use Rattle.numbers.specs.Numbers.{format_number, truth_number, answering, refusing, one_number, qp_numbers, qp7_numbers, found_numbers, stand_numbers, owing_numbers, kind_number, tally_numbers, built_numbers, read_numbers, entry_numbers};
+ghost use Rattle.numbers.specs.Numbers.{format_number, truth_number, answering, refusing, numbers, found_numbers, where_number, place_number, owing_numbers, kind_number, tally_numbers, entry_numbers};
 
+use blocks::FilePlace;
 use detect::AudioFormat;
 use frames::{Fetched, Found};
-use index::{Built, Read};
+use index::Size;
 use reader::Step;
-use refusals::Refusal;
+use refusals::{Numbers, Refusal};
 use tally::{Figures, FileKind};
-use whole::PayloadAnswer;
-use writing::Written;
 
 // What most exports answer: a refusal's number, or 0, and the number beside it; two numbers that the export names; and of a record that cannot
 // be read its size, and how many bytes are absent, which are 0 in every other answer.
@@ -85,168 +77,190 @@ pub fn of_format(format: AudioFormat) -> u8
 pub fn of_truth(truth: bool) -> u8
     ensures { result ≡ truth_number truth }
 {
-    if truth { 1 } else { 0 }
+    u8::from(truth)
 }
 
-// An answer's two numbers, with no refusal.
-fn answered(first: usize, second: usize) -> Answer
-    ensures { result ≡ answering first second }
-{
-    Answer {
-        refusal: 0,
-        beside: 0,
-        first: first as u64,
-        second: second as u64,
-        size: 0,
-        absent: 0,
+// The two numbers that an export tells of an answer.
+pub trait Told {
+    ghost first: { Self → ℕ };
+
+    ghost second: { Self → ℕ };
+
+    fn told(self) -> (u64, u64)
+        ensures first { result.0 ≡ first self }
+        ensures second { result.1 ≡ second self };
+}
+
+// Packets, or bytes.
+impl Told for usize {
+    ghost first = { λ many. many };
+
+    ghost second = { λ many. 0 };
+
+    fn told(self) -> (u64, u64) {
+        (self as u64, 0)
     }
 }
 
-// A refusal, with the second number that goes with it.
-fn refused(why: Refusal, second: usize) -> Answer
-    ensures { result ≡ refusing why second }
-{
-    Answer {
-        refusal: why.number,
-        beside: why.beside,
-        first: 0,
-        second: second as u64,
-        size: why.size,
-        absent: why.absent,
+impl Told for FilePlace {
+    ghost first = { λ place. place.0 };
+
+    ghost second = { λ place. 0 };
+
+    fn told(self) -> (u64, u64) {
+        (self.0 as u64, 0)
     }
 }
 
-pub fn of_payload(answer: PayloadAnswer) -> Answer
-    ensures { result ≡ one_number (payload_says answer) }
-{
-    match answer {
-        PayloadAnswer::At(place) => answered(place.0, 0),
-        PayloadAnswer::Refused(why) => refused(why, 0),
+impl Told for qp::Totals {
+    ghost first = { λ totals. totals.segments };
+
+    ghost second = { λ totals. totals.announced };
+
+    fn told(self) -> (u64, u64) {
+        (self.segments as u64, self.announced as u64)
     }
 }
 
-pub fn of_packets(answer: sp::Demuxed) -> Answer
-    ensures { result ≡ one_number (demuxed_says answer) }
-{
-    match answer {
-        sp::Demuxed::Packets(n) => answered(n, 0),
-        sp::Demuxed::Refused(why) => refused(why, 0),
+impl Told for qp7::Totals {
+    ghost first = { λ totals. totals.records };
+
+    ghost second = { λ totals. totals.segments };
+
+    fn told(self) -> (u64, u64) {
+        (self.records as u64, self.segments as u64)
     }
 }
 
-pub fn of_segments(answer: qp::Demuxed) -> Answer
-    ensures { result ≡ qp_numbers (qpSays answer) }
-{
-    match answer {
-        qp::Demuxed::Segments(totals) => answered(totals.segments, totals.announced),
-        qp::Demuxed::Refused(why) => refused(why, 0),
+// 0 and a file place, or 1 for the scratch's start.
+impl Told for Fetched {
+    ghost first = { λ fetched. where_number (stand_of fetched) };
+
+    ghost second = { λ fetched. place_number (stand_of fetched) };
+
+    fn told(self) -> (u64, u64) {
+        match self {
+            Fetched::InFile(place) => (0, place.0 as u64),
+            Fetched::InScratch => (1, 0),
+        }
     }
 }
 
-pub fn of_records(answer: qp7::Demuxed) -> Answer
-    ensures { result ≡ qp7_numbers (qp7Says answer) }
-{
-    match answer {
-        qp7::Demuxed::Tables(totals) => answered(totals.records, totals.segments),
-        qp7::Demuxed::Refused(why) => refused(why, 0),
+impl Told for Size {
+    ghost first = { λ size. size.bytes };
+
+    ghost second = { λ size. size.entries };
+
+    fn told(self) -> (u64, u64) {
+        (self.bytes as u64, self.entries as u64)
     }
 }
 
-pub fn of_found(found: Found) -> Answer
-    ensures { result ≡ found_numbers found }
-{
-    let place = found.place;
-    answered(place.0, found.size)
-}
+impl Told for entries::Totals {
+    ghost first = { λ totals. totals.entries };
 
-pub fn of_stand(answer: Fetched) -> Answer
-    ensures { result ≡ stand_numbers (fetched_says answer) }
-{
-    match answer {
-        Fetched::InFile(place) => answered(0, place.0),
-        Fetched::InScratch => answered(1, 0),
-        Fetched::Refused(why) => refused(why, 0),
+    ghost second = { λ totals. totals.packets };
+
+    fn told(self) -> (u64, u64) {
+        (self.entries as u64, self.packets as u64)
     }
 }
 
-pub fn of_written(answer: Written) -> Answer
-    ensures { result ≡ one_number (written_says answer) }
-{
-    match answer {
-        Written::Bytes(size) => answered(size, 0),
-        Written::Refused(why) => refused(why, 0),
+impl Answer {
+    // Two numbers, with no refusal.
+    fn answered(first: u64, second: u64) -> Self
+        ensures { result ≡ answering first second }
+    {
+        Self {
+            refusal: 0,
+            beside: 0,
+            first,
+            second,
+            size: 0,
+            absent: 0,
+        }
+    }
+
+    // A refusal, with the second number that goes with it.
+    fn refused(why: Refusal, second: u64) -> Self
+        ensures { result ≡ refusing (in_numbers why) second }
+    {
+        let why = Numbers::from(why);
+        Self {
+            refusal: why.number,
+            beside: why.beside,
+            first: 0,
+            second,
+            size: why.size,
+            absent: why.absent,
+        }
     }
 }
 
-pub fn of_built(answer: Built) -> Answer
-    ensures { result ≡ built_numbers (built_says answer) }
-{
-    match answer {
-        Built::Index(size) => answered(size.bytes, size.entries),
-        Built::Refused(why) => refused(why, 0),
+// An answer of any call that hands over two numbers.
+impl<T: Told> From<Result<T, Refusal>> for Answer {
+    ghost from_gives = { λ answer told. told ≡ numbers T.first T.second (result_says answer) };
+
+    fn from(answer: Result<T, Refusal>) -> Self {
+        match answer {
+            Ok(value) => {
+                let told = value.told();
+                Self::answered(told.0, told.1)
+            }
+            Err(why) => Self::refused(why, 0),
+        }
     }
 }
 
-pub fn of_read(answer: Read) -> Answer
-    ensures { result ≡ read_numbers (read_says answer) }
-{
-    match answer {
-        Read::Accepted(totals) => answered(totals.entries, totals.packets),
-        Read::Refused(why) => refused(why, 0),
-    }
-}
+// A frame, which is never refused.
+impl From<Found> for Answer {
+    ghost from_gives = { λ found told. told ≡ found_numbers found };
 
-fn shown(entry: entries::Entry) -> Entry
-    ensures { result ≡ entry_numbers (answers entry) }
-{
-    let place = entry.place;
-    Entry {
-        refusal: 0,
-        beside: 0,
-        number: entry.number as u64,
-        first: entry.first as u64,
-        place: place.0 as u64,
-        size: 0,
-        absent: 0,
-    }
-}
-
-fn not_shown(why: Refusal) -> Entry
-    ensures { result ≡ entry_numbers (refusal why) }
-{
-    let none: u64 = 0;
-    Entry {
-        refusal: why.number,
-        beside: why.beside,
-        number: none,
-        first: none,
-        place: none,
-        size: why.size,
-        absent: why.absent,
-    }
-}
-
-pub fn of_entry(answer: finding::Found) -> Entry
-    ensures { result ≡ entry_numbers (found_says answer) }
-{
-    match answer {
-        finding::Found::At(entry) => shown(entry),
-        finding::Found::Refused(why) => not_shown(why),
+    fn from(found: Found) -> Self {
+        Self::answered(found.place.0 as u64, found.size as u64)
     }
 }
 
 // The numbers of a reader's step: its packets, and the frames that its reader owes.
 pub fn of_step(step: Step) -> Answer
     requires { Reached step.reader }
-    ensures numbers { result ≡ owing_numbers result.second (demuxed_says step.answer) }
+    ensures numbers { result ≡ owing_numbers result.second (result_says step.answer) }
     ensures owed { OwedCall step.reader result.second }
 {
-    let reader = step.reader;
-    let answer = step.answer;
-    let owed = reader.owed();
-    match answer {
-        sp::Demuxed::Packets(n) => answered(n, owed),
-        sp::Demuxed::Refused(why) => refused(why, owed),
+    let owed = step.reader.owed() as u64;
+    match step.answer {
+        Ok(many) => Answer::answered(many as u64, owed),
+        Err(why) => Answer::refused(why, owed),
+    }
+}
+
+impl From<Result<entries::Entry, Refusal>> for Entry {
+    ghost from_gives = { λ answer told. told ≡ entry_numbers (result_says answer) };
+
+    fn from(answer: Result<entries::Entry, Refusal>) -> Self {
+        match answer {
+            Ok(entry) => Self {
+                refusal: 0,
+                beside: 0,
+                number: entry.number as u64,
+                first: entry.first as u64,
+                place: entry.place.0 as u64,
+                size: 0,
+                absent: 0,
+            },
+            Err(why) => {
+                let why = Numbers::from(why);
+                Self {
+                    refusal: why.number,
+                    beside: why.beside,
+                    number: 0,
+                    first: 0,
+                    place: 0,
+                    size: why.size,
+                    absent: why.absent,
+                }
+            }
+        }
     }
 }
 
@@ -261,50 +275,40 @@ fn of_kind(kind: FileKind) -> u64
     }
 }
 
-fn counted(figures: Figures) -> Tallied
-    ensures { result ≡ tally_numbers (answers figures) }
-{
-    let start = figures.start;
-    let out = figures.out;
-    let kind = figures.kind;
-    Tallied {
-        refusal: 0,
-        beside: 0,
-        kind: of_kind(kind),
-        start: start.0 as u64,
-        blocks: figures.blocks as u64,
-        announced: figures.announced as u64,
-        handed: out.many as u64,
-        short_count: out.short as u64,
-        bytes: out.bytes,
-        size: 0,
-        absent: 0,
-    }
-}
+impl From<Result<Figures, Refusal>> for Tallied {
+    ghost from_gives = { λ answer told. told ≡ tally_numbers (result_says answer) };
 
-fn not_counted(why: Refusal) -> Tallied
-    ensures { result ≡ tally_numbers (refusal why) }
-{
-    Tallied {
-        refusal: why.number,
-        beside: why.beside,
-        kind: 0,
-        start: 0,
-        blocks: 0,
-        announced: 0,
-        handed: 0,
-        short_count: 0,
-        bytes: 0,
-        size: why.size,
-        absent: why.absent,
-    }
-}
-
-pub fn of_tally(answer: tally::Tallied) -> Tallied
-    ensures { result ≡ tally_numbers (tallied_says answer) }
-{
-    match answer {
-        tally::Tallied::Counted(figures) => counted(figures),
-        tally::Tallied::Refused(why) => not_counted(why),
+    fn from(answer: Result<Figures, Refusal>) -> Self {
+        match answer {
+            Ok(figures) => Self {
+                refusal: 0,
+                beside: 0,
+                kind: of_kind(figures.kind),
+                start: figures.start.0 as u64,
+                blocks: figures.blocks as u64,
+                announced: figures.announced as u64,
+                handed: figures.out.many as u64,
+                short_count: figures.out.short as u64,
+                bytes: figures.out.bytes,
+                size: 0,
+                absent: 0,
+            },
+            Err(why) => {
+                let why = Numbers::from(why);
+                Self {
+                    refusal: why.number,
+                    beside: why.beside,
+                    kind: 0,
+                    start: 0,
+                    blocks: 0,
+                    announced: 0,
+                    handed: 0,
+                    short_count: 0,
+                    bytes: 0,
+                    size: why.size,
+                    absent: why.absent,
+                }
+            }
+        }
     }
 }
