@@ -4,13 +4,13 @@
 
 ghost use Rattle.std.specs.Prelude.{◌≡◌, ◌+◌, ◌≤◌, length};
 ghost use Rattle.io.specs.Counts.{IsPrefixLen};
-ghost use Rattle.refusals.specs.Numbers.{record_refusals};
+ghost use Rattle.refusals.specs.Numbers.{in_numbers, record_refusals};
 ghost use Rattle.refusals.specs.Said.{is_among};
 ghost use Rattle.listing.specs.Line.{name_of, spaced, spaced_all, tally_line, lack_of, refused_line, list_line, Lists};
 ghost use Rattle.listing.specs.Inner.{Put};
 
-use refusals::Refusal;
-use tally::{Figures, FileKind, Tallied};
+use refusals::{Numbers, Refusal};
+use tally::{Figures, FileKind};
 
 // The most bytes that `list` takes.
 const MOST: usize = 65536;
@@ -23,9 +23,8 @@ fn put_text(text: &[u8], at: usize, line: &mut [u8]) -> usize
     requires { at + length text.now ≤ length line.old }
     ensures { Put text.now at line.old line.new result }
 {
-    let n = text.len();
-    tables::copy(line, at, text, 0, n);
-    at + n
+    tables::copy(line, at, text, 0, text.len());
+    at + text.len()
 }
 
 // The same for a space and a number.
@@ -60,8 +59,7 @@ fn put_figures(figures: Figures, line: &mut [u8]) -> usize
     requires { length line.old ≡ 133 }
     ensures { Lists (tally_line figures) line.old line.new result }
 {
-    let kind = figures.kind;
-    let mut at = put_name(kind, line);
+    let mut at = put_name(figures.kind, line);
     at = put_number(figures.start.0 as u64, at, line);
     at = put_number(figures.blocks as u64, at, line);
     at = put_number(figures.announced as u64, at, line);
@@ -75,14 +73,11 @@ fn put_figures(figures: Figures, line: &mut [u8]) -> usize
 fn is_of_record(number: u64) -> bool
     ensures { result ≡ is_among record_refusals number }
 {
-    if number == 4 {
-        return true;
-    }
-    number == 5
+    number == 4 || number == 5
 }
 
 // The end of a refusal's line: of a record that cannot be read its size, and how many bytes are absent, before the line's end.
-fn put_lack(why: Refusal, from: usize, line: &mut [u8]) -> usize
+fn put_lack(why: Numbers, from: usize, line: &mut [u8]) -> usize
     requires { from + 43 ≤ length line.old }
     ensures { Put (spaced_all (lack_of why)) from line.old line.new result }
 {
@@ -97,8 +92,9 @@ fn put_lack(why: Refusal, from: usize, line: &mut [u8]) -> usize
 // The line of a refusal.
 fn put_refusal(why: Refusal, line: &mut [u8]) -> usize
     requires { length line.old ≡ 133 }
-    ensures { Lists (refused_line why) line.old line.new result }
+    ensures { Lists (refused_line (in_numbers why)) line.old line.new result }
 {
+    let why = Numbers::from(why);
     let mut at = put_text(b"refused", 0, line);
     at = put_number(why.number, at, line);
     at = put_number(why.beside, at, line);
@@ -111,11 +107,10 @@ pub fn list_line(file: &[u8], line: &mut [u8; LINE]) -> usize
     ensures inside { IsPrefixLen result line.new }
 {
     if MOST < file.len() {
-        return put_refusal(Refusal::limit(MOST), line);
+        return put_refusal(Refusal::Limit(MOST), line);
     }
-    let answer = tally::tally(file);
-    match answer {
-        Tallied::Refused(why) => put_refusal(why, line),
-        Tallied::Counted(figures) => put_figures(figures, line),
+    match tally::tally(file) {
+        Ok(figures) => put_figures(figures, line),
+        Err(why) => put_refusal(why, line),
     }
 }

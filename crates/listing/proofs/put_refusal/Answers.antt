@@ -5,7 +5,8 @@ use Rattle.listing.proofs.put_refusal.Goals as goal
 
 pub returns : goal.returns
 returns c =
-    put_lists
+    rw (← c.from-why.ensures)
+    (put_lists
     (put_join c.put_text-at.ensures
     (put_more _ _ c.put_number-at.ensures.put
-    (put_more _ _ c.put_number-at-2.ensures.put c.put_lack.ensures)))
+    (put_more _ _ c.put_number-at-2.ensures.put c.put_lack.ensures))))
