@@ -155,9 +155,8 @@ pub fn klov_piece(reader: &mut Reader, src: &[u8], out: &mut [u8], counts: &mut 
     requires { Reached reader.old }
     ensures { Advances (PieceCall reader.old src.now out.old out.new counts.old counts.new) reader.new result }
 {
-    let step = (*reader).piece(src, out, counts);
-    *reader = step.reader;
-    numbers::of_step(step)
+    let answer = reader.push(src, out, counts);
+    numbers::of_call(answer, reader)
 }
 
 // An end, where the reader stands, strict or lenient by the choice. First: packets. Second: frames owed afterwards, refused or not.
@@ -165,9 +164,8 @@ pub fn klov_end(reader: &mut Reader, choice: u64, out: &mut [u8], counts: &mut [
     requires { Reached reader.old }
     ensures { Advances (EndCall reader.old choice out.old out.new counts.old counts.new) reader.new result }
 {
-    let step = (*reader).end(choice, out, counts);
-    *reader = step.reader;
-    numbers::of_step(step)
+    let answer = reader.finish(choice, out, counts);
+    numbers::of_call(answer, reader)
 }
 
 // First: bytes of the file.

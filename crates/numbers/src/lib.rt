@@ -14,7 +14,7 @@ use blocks::FilePlace;
 use detect::AudioFormat;
 use frames::{Fetched, Found};
 use index::Size;
-use reader::Step;
+use reader::Reader;
 use refusals::{Numbers, Refusal};
 use tally::{Figures, FileKind};
 
@@ -221,14 +221,14 @@ impl From<Found> for Answer {
     }
 }
 
-// The numbers of a reader's step: its packets, and the frames that its reader owes.
-pub fn of_step(step: Step) -> Answer
-    requires { Reached step.reader }
-    ensures numbers { result ≡ owing_numbers result.second (result_says step.answer) }
-    ensures owed { OwedCall step.reader result.second }
+// The numbers of a reader's call: its packets, and the frames that the reader owes afterwards.
+pub fn of_call(answer: Result<usize, Refusal>, reader: &Reader) -> Answer
+    requires { Reached reader.now }
+    ensures numbers { result ≡ owing_numbers result.second (result_says answer) }
+    ensures owed { OwedCall reader.now result.second }
 {
-    let owed = step.reader.owed() as u64;
-    match step.answer {
+    let owed = (*reader).owed() as u64;
+    match answer {
         Ok(many) => Answer::answered(many as u64, owed),
         Err(why) => Answer::refused(why, owed),
     }

@@ -6,7 +6,7 @@
 ghost use Rattle.std.specs.Prelude.{◌≡◌, true, cond, ◌+◌, ◌-◌, ◌/◌, ◌%◌, ◌≤◌, ◌<◌, ◌^◌, min, eqb, leb};
 ghost use Rattle.refusals.specs.Said.{result_says};
 ghost use Rattle.reader.specs.State.{is_kind, start_of, reader_of, Reached};
-ghost use Rattle.reader.specs.Inner.{standing_of, fresh};
+ghost use Rattle.reader.specs.Inner.{standing_of, fresh, step_to};
 ghost use Rattle.reader.specs.Calls.{strict_by, lenient_by, end_by, Opens};
 ghost use Rattle.reader.specs.History.{PieceCall, EndCall, OwedCall};
 
@@ -138,6 +138,13 @@ fn decide(
     }
 }
 
+// The phase after an end that hands out so many of the packets owed.
+fn phase_after(some: usize, owed: usize) -> u64
+    ensures { result ≡ cond (eqb some owed) 2 1 }
+{
+    if some == owed { ENDED } else { DRAINS }
+}
+
 impl Reader {
     // A reader of a kind that has taken nothing.
     fn empty(kind: u64, phase: u64) -> Self
@@ -194,6 +201,23 @@ impl Reader {
         requires { Reached self }
         ensures { PieceCall self piece.now out.old out.new counts.old counts.new result }
     {
+        let answer = self.push(piece, out, counts);
+        Step {
+            answer,
+            reader: self,
+        }
+    }
+
+    // For the crates above. The same where the reader stands.
+    pub fn push(
+        &mut self,
+        piece: &[u8],
+        out: &mut [u8],
+        counts: &mut [u8],
+    ) -> Result<usize, Refusal>
+        requires { Reached self.old }
+        ensures { PieceCall self.old piece.now out.old out.new counts.old counts.new (step_to self.new result) }
+    {
         let dss = self.kind != 0;
         let a = start_of(self.kind);
         let was = self.standing();
@@ -229,10 +253,7 @@ impl Reader {
             self.first = now.first;
             self.carry = now.carry;
         }
-        Step {
-            answer,
-            reader: self,
-        }
+        answer
     }
 
     // Ends the reader, strictly or leniently as the choice has it, and refuses any other choice by 22. The strict end hands out nothing; it is
@@ -242,6 +263,23 @@ impl Reader {
     pub fn end(mut self, choice: u64, out: &mut [u8], counts: &mut [u8]) -> Step
         requires { Reached self }
         ensures { EndCall self choice out.old out.new counts.old counts.new result }
+    {
+        let answer = self.finish(choice, out, counts);
+        Step {
+            answer,
+            reader: self,
+        }
+    }
+
+    // For the crates above. The same where the reader stands.
+    pub fn finish(
+        &mut self,
+        choice: u64,
+        out: &mut [u8],
+        counts: &mut [u8],
+    ) -> Result<usize, Refusal>
+        requires { Reached self.old }
+        ensures { EndCall self.old choice out.old out.new counts.old counts.new (step_to self.new result) }
     {
         let dss = self.kind != 0;
         let a = start_of(self.kind);
@@ -263,12 +301,9 @@ impl Reader {
                 counts,
             );
             self.drained += some;
-            self.phase = if some == owed { ENDED } else { DRAINS };
+            self.phase = phase_after(some, owed);
         }
-        Step {
-            answer,
-            reader: self,
-        }
+        answer
     }
 
     // How many frames are announced and not handed out: what a lenient end with ample room would hand out.

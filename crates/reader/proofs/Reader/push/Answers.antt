@@ -1,15 +1,15 @@
--- `reader::Reader::piece` meets its contract: the survey says what is said at the state, and an accepted piece leaves the next one.
+-- `reader::Reader::push` meets its contract: the survey says what is said at the state, and an accepted piece leaves the next one.
 -- Assumes nothing.
 use native.Mathlib.Omega.{arith}
 use Rattle.blocks.specs.Headers.{Bytes}
 use Rattle.refusals.proofs.Results.{ok_says, err_says}
 use Rattle.reader.proofs.Piecing.{Decided, knows, enables, few_taken, keeps, takes}
-use Rattle.reader.proofs.Reader.piece.Goals as goal
-use Rattle.reader.proofs.Reader.piece.Goals.{After-decide-answer}
+use Rattle.reader.proofs.Reader.push.Goals as goal
+use Rattle.reader.proofs.Reader.push.Goals.{After-decide-answer}
 
 -- what was decided, of a piece whose bytes are bytes
 decided : (c : After-decide-answer)
-    → Decided c.args.self c.start_of-a.result.0 c.args.piece.now c.args.out.now c.args.counts.now c.room_for-room.result c.decide-answer.result
+    → Decided c.args.self.now c.start_of-a.result.0 c.args.piece.now c.args.out.now c.args.counts.now c.room_for-room.result c.decide-answer.result
 decided c = record { room_is = c.room_for-room.ensures; says = rw c.standing-was.ensures at c.decide-answer.ensures }
 
 pub decide-answer-requires-clause-known : goal.decide-answer-requires-clause-known
