@@ -54,14 +54,13 @@ fn put(segment: Segment, number: usize, most: usize, table: &mut [u32])
     requires room { width * most ≤ length table.old }
     ensures { Puts table.old number most (entry_of segment) table.new }
 {
-    if most <= number {
-        return;
-    }
-    let at = ENTRY * number;
-    table[at] = segment.start.0 as u32;
-    table[at + 1] = segment.long as u32;
-    table[at + 2] = segment.frames as u32;
-    table[at + 3] = segment.reset as u32;
+    let entry = [
+        segment.start.0 as u32,
+        segment.long as u32,
+        segment.frames as u32,
+        segment.reset as u32,
+    ];
+    tables::put_entry(table, number, most, &entry);
 }
 
 // Closes the open segment in a stream of so many bytes, and gives back how many are kept then.

@@ -87,10 +87,7 @@ fn note(at: StreamPlace, number: usize, most: usize, records: &mut [u32])
     requires { (at.0 < 2 ^ 32) × (most ≤ length records.old) }
     ensures { Puts records.old number most (at.0 ∷ []) records.new }
 {
-    if most <= number {
-        return;
-    }
-    records[number] = at.0 as u32;
+    tables::put_entry(records, number, most, &[at.0 as u32]);
 }
 
 // Reads so many records from where the walk stands, one after another.
@@ -126,13 +123,12 @@ fn put(segment: Segment, number: usize, most: usize, segments: &mut [u32])
     requires { (segment.first < 2 ^ 32) × (segment.records < 2 ^ 32) × (segment.reset < 2 ^ 32) × (width * most ≤ length segments.old) }
     ensures { Puts segments.old number most (entry_of segment) segments.new }
 {
-    if most <= number {
-        return;
-    }
-    let at = ENTRY * number;
-    segments[at] = segment.first as u32;
-    segments[at + 1] = segment.records as u32;
-    segments[at + 2] = segment.reset as u32;
+    let entry = [
+        segment.first as u32,
+        segment.records as u32,
+        segment.reset as u32,
+    ];
+    tables::put_entry(segments, number, most, &entry);
 }
 
 // Closes the open segment, if it is not empty.

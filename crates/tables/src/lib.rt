@@ -1,9 +1,10 @@
-// For the crates above: bytes copied. What a call leaves in a lent buffer is defined in specs/, and its laws are in proofs/. Nothing here
-// knows the format. Rests on nothing.
+// For the crates above: bytes copied, cleared and moved, and a table's entry put. What a call leaves in a lent buffer is defined in specs/, and
+// its laws are in proofs/. Nothing here knows the format. Rests on nothing.
 #![tactic(auto)]
 
-ghost use Rattle.std.specs.Prelude.{◌≡◌, ◌+◌, ◌≤◌, ◌<◌, length, get_or};
+ghost use Rattle.std.specs.Prelude.{◌+◌, ◌*◌, ◌≤◌, ◌<◌, length, get_or};
 ghost use Rattle.tables.specs.Lent.{Leaves};
+ghost use Rattle.tables.specs.Inner.{Puts};
 
 // For the crates above. Copies n bytes of a source from a place on to a place of a list.
 pub fn copy(list: &mut [u8], to: usize, source: &[u8], at: usize, n: usize)
@@ -30,4 +31,16 @@ pub fn move_up(list: &mut [u8], by: usize, n: usize)
     ensures { Leaves list.old 0 n (λ i. get_or list.old (by + i) 0) list.new }
 {
     list.copy_within(by..by + n, 0);
+}
+
+// For the crates above. Puts an entry of N words under a number of a table, if that is to be written.
+pub fn put_entry<const N: usize>(table: &mut [u32], number: usize, most: usize, entry: &[u32; N])
+    requires { N * most ≤ length table.old }
+    ensures { Puts table.old number most entry.now table.new }
+{
+    if most <= number {
+        return;
+    }
+    let at = N * number;
+    table[at..at + N].copy_from_slice(entry);
 }
