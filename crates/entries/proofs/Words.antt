@@ -1,10 +1,13 @@
 -- Four bytes and the number that they make.
 -- Assumes nothing.
-use Prim.Native.Nat.{ℕ, suc, ◌+◌, ◌*◌, ◌/◌, ◌%◌, ◌≤◌, ◌<◌, ◌^◌}
-use mathlib.Core.Path.{◌≡◌, sym, ap, ◌∙◌}
+use Prim.Native.Nat.{ℕ, zero, suc, ◌+◌, ◌*◌, ◌/◌, ◌%◌, ◌≤◌, ◌<◌, ◌^◌}
+use mathlib.Core.Path.{◌≡◌, refl, sym, ap, ◌∙◌}
 use mathlib.Core.List.{List, [], ◌∷◌}
 use native.Mathlib.Omega.{arith}
 use lib.ListN.{length, get_or, take, drop}
+use Rattle.std.specs.Int.{to_be_bytes}
+use Rattle.std.proofs.Common.{w32}
+use Rattle.std.proofs.lemmas.Nat.{be_bytes_4}
 use lib.Seq.{drop-cons, get_or-take, get_or-drop}
 use Rattle.blocks.specs.Headers.{Bytes}
 use Rattle.entries.specs.Words.{word32, word_at}
@@ -55,3 +58,14 @@ module _ (x : List ℕ) (i n : ℕ) (there : i + 4 ≤ length x) where
   word_read small e =
       word_back x i n small
       (λ k h. sym (get_or-take 4 (drop i x) k 0 h ∙ get_or-drop i x k 0) ∙ ap (λ (l : List ℕ). get_or l k 0) e)
+
+-- std's bytes of a number's lowest 32 bits, the highest first, are the word
+pub word_bytes : (n : ℕ) → to_be_bytes w32 (n % 2 ^ 32) ≡ word32 n
+word_bytes n = be_bytes_4 (word32 n) (n % 2 ^ 32) refl (λ i. below i) (omega arith)
+  where
+    below : (i : ℕ) → get_or (word32 n) i 0 < 256
+    below zero = omega arith
+    below (suc zero) = omega arith
+    below (suc (suc zero)) = omega arith
+    below (suc (suc (suc zero))) = omega arith
+    below (suc (suc (suc (suc i)))) = omega arith

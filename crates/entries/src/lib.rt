@@ -33,22 +33,13 @@ pub struct Totals {
     pub packets: usize,
 }
 
-// A number's lowest byte.
-fn low_byte(n: usize) -> u8
-    ensures { result ≡ n % 256 }
-{
-    (n % 256) as u8
-}
-
 // Puts the four bytes of a number at a place.
 pub fn put_word(out: &mut [u8], at: usize, n: usize)
     requires { at + 4 ≤ length out.old }
     ensures { Lays out.old at (word32 n) out.new }
 {
-    out[at] = low_byte(n / 16_777_216);
-    out[at + 1] = low_byte(n / 65_536);
-    out[at + 2] = low_byte(n / 256);
-    out[at + 3] = low_byte(n);
+    let word = (n % 4_294_967_296) as u32;
+    tables::copy(out, at, &word.to_be_bytes(), 0, 4);
 }
 
 // The number whose four bytes stand at a place.
@@ -56,11 +47,7 @@ pub fn word_at(index: &[u8], at: usize) -> usize
     requires { at + 4 ≤ length index.now }
     ensures { (result ≡ word_at index.now at) × (result < 2 ^ 32) }
 {
-    let one = usize::from(index[at]);
-    let two = usize::from(index[at + 1]);
-    let three = usize::from(index[at + 2]);
-    let four = usize::from(index[at + 3]);
-    16_777_216 * one + 65_536 * two + 256 * three + four
+    u32::from_be_bytes([index[at], index[at + 1], index[at + 2], index[at + 3]]) as usize
 }
 
 // Puts the bytes of an entry at a place.
