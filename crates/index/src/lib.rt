@@ -68,10 +68,7 @@ fn is_framed(index: &[u8]) -> bool
         return false;
     }
     let follow = entries::word_at(index, 0);
-    if follow == 0 {
-        return false;
-    }
-    follow == index.len() - 4
+    0 < follow && follow == index.len() - 4
 }
 
 // For the crates above too. Holds an index to a recording.

@@ -55,10 +55,7 @@ fn ds2_by(first: u8) -> Magic
 pub fn names_dss(file: &[u8]) -> bool
     ensures { result ≡ names_dss file.now }
 {
-    if file.len() < 4 {
-        return false;
-    }
-    is_spelt(file, b'd', b's', b's')
+    4 <= file.len() && is_spelt(file, b'd', b's', b's')
 }
 
 // For the crates above. What the file's first four bytes say.
