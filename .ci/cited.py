@@ -12,7 +12,7 @@ import sys
 from functools import cache
 from typing import NamedTuple
 
-from sources import Declaration, bare, crates, declared, rattle_files, read
+from sources import TRAIT_FOR, Declaration, bare, crates, declared, rattle_files, read
 
 USE = re.compile(r"^(?:ghost )?use ([^\s{;:]+?)(?:\.\{([^}]*)\}| as ([^\s;]+));?$", re.M)
 OF_CRATE = re.compile(r"Rattle\.(\w+)\.(specs|proofs)\.(.+)")
@@ -28,6 +28,8 @@ WORDS = set("pub abbrev unfoldable unfolding module where record data Type : →
 # the kit's libraries whose names stand in the statements as those of its logic do
 OF_LANGUAGE = ("core", "std", "std_alloc", "std_collections", "std_heap", "std_io")
 TYPES = ("struct", "enum", "const")
+# the types that the code has of its language; a letter alone is a parameter
+OF_RATTLE = ("Option", "Result", "Ok", "Err", "Some", "None", "Fn", "FnMut", "FnOnce")
 
 
 class Citation(NamedTuple):
@@ -227,7 +229,10 @@ def in_types(one: Declaration, text: str) -> list[Citation]:
     found = []
     for word in re.findall(r"\b[A-Z]\w*", bare(text).replace('extern "C"', "")):
         if word == "Self":
-            word = one.headers[-1][1].split()[1]
+            block = TRAIT_FOR.match(one.headers[-1][1])
+            word = re.match(r"\w+", block.group(1).split(" for ")[1]).group() if block else one.headers[-1][1].split()[1]
+        if word in OF_RATTLE or len(word) == 1:
+            continue
         if word in types_in(one.path):
             found.append(Citation(word, word, types_in(one.path)[word]))
         elif word not in one.makers():

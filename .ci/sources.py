@@ -15,6 +15,8 @@ NAMED = re.compile(r"((?:`[^`]+`,?\s)+)in\s`(crates/[^`]+)`")
 DEMANDS = "## The demands, and what says them\n"
 MARKED = re.compile(r" *((?:(?:abbrev|unfoldable|pub|record|data) )*)(\S+)(?: |$)")
 RATTLE = re.compile(r'( *)(pub )?(extern "C" )?(fn|struct|enum|const|impl) (\w+)')
+# a block of a trait's functions for a type
+TRAIT_FOR = re.compile(r"impl(?:<[^{]*>)? (\S.* for .*\S) \{")
 CLAUSE = re.compile(r"^ *(requires|ensures)(?: \w+)? \{(.*?)\}(?=\n *(?:requires|ensures)\b|\Z)", re.M | re.S)
 
 
@@ -161,14 +163,19 @@ def rattle(path: str, lines: list[str]) -> list[Declaration]:
     found, above, headers, at = [], [], (), 0
     while at < len(lines):
         line, head = lines[at], RATTLE.match(lines[at])
-        if line.strip().startswith(("//", "#[")):
+        if line.strip().startswith("#[tactic("):
+            # how the check is to find the proof, which says nothing of the function
+            pass
+        elif line.strip().startswith(("//", "#[")):
             above.append(line)
         elif head and head.group(4) == "impl":
             headers, above = ((at, line),), []
         elif head:
             end = ending(lines, at, head.group(1), head.group(4))
             found.append(rattle_item(path, at, lines[at:end], head, headers, above))
-            at = closing(lines, end - 1, head.group(1)) if head.group(4) == "fn" else end - 1
+            # a trait's function has no body
+            bodied = head.group(4) == "fn" and not lines[end - 1].endswith(";")
+            at = closing(lines, end - 1, head.group(1)) if bodied else end - 1
             above = []
         else:
             headers, above = () if line == "}" else headers, []
@@ -179,7 +186,7 @@ def rattle(path: str, lines: list[str]) -> list[Declaration]:
 def ending(lines: list[str], at: int, indent: str, kind: str) -> int:
     """The line after a function's contract, or after a type or a constant."""
     if kind == "fn":
-        return next(i for i in range(at + 1, len(lines) + 1) if lines[i - 1].endswith(" {") or lines[i] == indent + "{")
+        return next(i for i in range(at + 1, len(lines) + 1) if lines[i - 1].endswith((" {", ";")) or lines[i] == indent + "{")
     return at + 1 if lines[at].endswith(";") else closing(lines, at, indent) + 1
 
 
@@ -193,7 +200,10 @@ def rattle_item(path: str, at: int, lines: list[str], head: re.Match, headers: t
         parts = ("\n".join(lines).removesuffix(" {"),)
     else:
         parts = (lines[0], *("\n".join(part) for _, part in items(lines[1:], 0, len(head.group(1)) + 4)))
-    return Declaration(head.group(5), path, at + 1, kind, bool(head.group(2)), bool(head.group(3)), headers, "\n".join(above), parts)
+    # a trait's functions bear the same names in each type's block
+    block = TRAIT_FOR.match(headers[0][1]) if headers else None
+    name = f"{block.group(1)}::{head.group(5)}" if block else head.group(5)
+    return Declaration(name, path, at + 1, kind, bool(head.group(2)), bool(head.group(3)), headers, "\n".join(above), parts)
 
 
 @cache
