@@ -1,8 +1,8 @@
 // The audio start and the type of a DS2 file, for any bytes at all. Rests on blocks, for places and headers, and on magic, for
 // the first byte.
-ghost use Rattle.std.specs.Prelude.{◌≡◌, ◌-◌, ◌≤◌, ◌^◌, min, drop};
+ghost use Rattle.std.specs.Prelude.{◌≡◌, ◌-◌, min, drop};
 ghost use Rattle.detect.specs.Header.{good_type, good_header};
-ghost use Rattle.detect.specs.Start.{score, scanned, audio_start};
+ghost use Rattle.detect.specs.Start.{scanned, audio_start};
 ghost use Rattle.detect.specs.Kinds.{format_type, kind_of, read_as};
 
 use crate::Kind;
@@ -49,37 +49,35 @@ fn scan_end(long: usize) -> usize
     long.saturating_sub(HEADER).min(0x10000)
 }
 
-// How many good headers stand in a row from a place on, a block apart, of four.
-fn good_in_row(file: &[u8], at: usize) -> usize
-    requires { at ≤ 2 ^ 32 }
-    ensures { result ≡ min 4 (score file.now at) }
-{
-    for valid in 0..4 {
-        if !is_good_at(file, at + BLOCK * valid) {
-            return valid;
-        }
-    }
-    4
-}
-
-// The scan stops at the first place with four good headers; else the best score wins.
+// The scan stops at the first place with four good headers; else the best score wins. A rule of the project names its form:
+// offsets and sixteen headers nested, left by a label, and the start yielded by break.
 fn scan(file: &[u8]) -> usize
     ensures { result ≡ scanned file.now }
 {
+    let end = scan_end(file.len());
+    let mut offset = BLOCK;
     let mut best = NONE_GOOD_START;
     let mut most: usize = 0;
-    for k in 0..scan_end(file.len()) / BLOCK {
-        let offset = BLOCK * (k + 1);
-        let valid = good_in_row(file, offset);
-        if valid == 4 {
-            return offset;
+    'scan: loop {
+        if end < offset {
+            break 'scan best;
+        }
+        let mut valid: usize = 0;
+        while valid < 16 {
+            if !is_good_at(file, offset + BLOCK * valid) {
+                break;
+            }
+            valid += 1;
+            if valid == 4 {
+                break 'scan offset;
+            }
         }
         if most < valid {
             most = valid;
             best = offset;
         }
+        offset += BLOCK;
     }
-    best
 }
 
 // Where the audio of a DS2 file starts.

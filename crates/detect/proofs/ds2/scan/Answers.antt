@@ -1,36 +1,72 @@
--- `detect::ds2::scan` meets its contract: what is left to scan gives what the whole scan gives.
+-- `detect::ds2::scan` meets its contract: what is left to scan gives what the whole scan gives, and the inner count is the candidate's score so far.
 -- Assumes nothing.
-use Prim.Native.Nat.{suc, ◌+◌, ◌*◌, ◌-◌, ◌/◌, ◌<◌}
+use Prim.Native.Nat.{ℕ, suc, ◌+◌, ◌-◌, ◌/◌, ◌≤◌, ◌<◌, min}
 use mathlib.Core.Path.{◌≡◌, sym, ◌∙◌}
+use lib.ListN.{length}
 use native.Mathlib.Omega.{arith}
 use Rattle.detect.specs.Start.{score, scanned}
-use Rattle.detect.proofs.Start.{scan_none, scan_four, scan_better, scan_worse}
-use Rattle.std.proofs.Common.{rules}
+use Rattle.detect.proofs.Start.{ran_more, ran_ends, scan_none, scan_four, scan_better, scan_worse}
+use Rattle.tables.proofs.Tests.{told}
+use borrow.Author.Rules.{rules}
+use Rattle.std.proofs.Common.{rules, ◌≡◌, ◌-◌, min, ℕ, ◌+◌, ◌<◌, ◌≤◌, length, ◌/◌}
+use Rattle.detect.specs.Start.{scanned}
 use Rattle.detect.proofs.ds2.scan.Goals as goal
-use Rattle.detect.proofs.ds2.scan.Goals.{then-most-valid, else-most-valid}
+use Rattle.detect.proofs.ds2.scan.Goals.{else-loop-valid-test, then-loop-valid-test+then-not-is_good_at, then-most-valid, else-most-valid}
 
-pub loop-k-init : goal.loop-k-init
+no_more : (v : ℕ) → v < 4 → 16 ≤ v → ⊥
+no_more v a b = omega arith
+
+pub scan-init : goal.scan-init
 unfolding scanned
-loop-k-init c = let all : c.scan_end-k-end.result / 512 - 0 ≡ c.scan_end-k-end.result / 512 = omega arith in rw (all, c.scan_end-k-end.ensures)
+scan-init c =
+    let e : (c.scan_end-end.result + 512 - 512) / 512 ≡ min 0x10000 (length c.args.file.now - 6) / 512 = omega arith in
+    (search rules, (search rules, (search rules, (search rules, rw e))))
+
+pub loop-valid-preserved : goal.loop-valid-preserved
+loop-valid-preserved c = (
+  omega arith,
+  ran_more c.args.file.now c.scan.offset c.loop-valid.valid (search rules)
+      (told c.is_good_at.ensures c.if-not-is_good_at.false) c.loop-valid.invariant.1,
+)
+
+pub scan-preserved : goal.scan-preserved
+scan-preserved c =
+    let v = c.scan in
+    let n : c.loop-valid.valid < 4 = c.loop-valid.invariant.0 in
+    let z = c.scan_end-end.result in
+    let q : (z + 512 - v.offset) / 512 ≡ suc ((z + 512 - (v.offset + 512)) / 512) = omega arith in
+    -- where the inner loop was left, its count is the candidate's score
+    let counted : score c.args.file.now v.offset ≡ c.loop-valid.valid =
+    elim c.loop-valid-test.branch [
+      | else-loop-valid-test w ↦ absurd (no_more c.loop-valid.valid n w.loop-valid-test.false)
+      | then-loop-valid-test+then-not-is_good_at w ↦
+          ran_ends c.args.file.now v.offset c.loop-valid.valid w.loop-valid-test.true (told w.is_good_at.ensures w.if-not-is_good_at.true) c.loop-valid.invariant.1
+    ] in (
+      search rules,
+      (
+        search rules,
+        (
+          search rules,
+          (
+            search rules,
+            v.invariant.1.1.1.1
+                ∙ (elim c.if-most-valid.branch [
+                  | then-most-valid w ↦ scan_better _ _ _ _ _ _ _ q counted n w.if-most-valid.true ∙ cc
+                  | else-most-valid w ↦ scan_worse _ _ _ _ _ _ _ q counted n w.if-most-valid.false ∙ cc
+                ]),
+          ),
+        ),
+      ),
+    )
+
+pub returns-then-end-offset : goal.returns-then-end-offset
+returns-then-end-offset c =
+    let v = c.scan in
+    sym (v.invariant.1.1.1.1 ∙ scan_none _ _ _ _ _ (omega arith))
 
 pub returns-then-valid-eq4 : goal.returns-then-valid-eq4
 returns-then-valid-eq4 c =
-    sym (c.loop-k.invariant ∙ scan_four _ _ _ _ _ (omega arith) (omega (arith, c.good_in_row-valid.ensures, c.if-valid-eq4.true)))
-
-pub loop-k-preserved : goal.loop-k-preserved
-loop-k-preserved c =
-    let l = c.loop-k in
-    let n = c.scan_end-k-end.result / 512 in
-    let valid = c.good_in_row-valid.result in
-    let next : 512 * (l.k + 1) + 512 ≡ 512 * (l.k + 1 + 1) = omega arith in
-    let more : n - l.k ≡ suc (n - (l.k + 1)) = omega arith in
-    let few : valid < 4 = omega (arith, c.good_in_row-valid.ensures, c.if-valid-eq4.false) in
-    let counted : score c.args.file.now (512 * (l.k + 1)) ≡ valid = omega (arith, c.good_in_row-valid.ensures) in
-    l.invariant
-    ∙ (elim c.if-most-valid.branch [
-      | then-most-valid w ↦ scan_better _ _ _ _ _ _ _ more counted few w.if-most-valid.true ∙ cc (next, w.best-is, w.most-is)
-      | else-most-valid w ↦ scan_worse _ _ _ _ _ _ _ more counted few w.if-most-valid.false ∙ cc (next, w.best-is, w.most-is)
-    ])
-
-pub returns : goal.returns
-returns c = sym (c.loop-k.invariant ∙ scan_none _ _ _ _ _ (omega arith))
+    let v = c.scan in
+    let f = c.args.file.now in
+    let r = ran_more f v.offset c.loop-valid.valid (search rules) (told c.is_good_at.ensures c.if-not-is_good_at.false) c.loop-valid.invariant.1 in
+    sym (v.invariant.1.1.1.1 ∙ scan_four _ _ _ _ _ (omega arith) (omega (arith, r, c.if-valid-eq4.true)))
