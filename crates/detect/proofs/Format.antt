@@ -1,28 +1,20 @@
 -- The ways of a detected format; which files are named by four bytes alone, and that a file of the encrypted recorders has no name.
 -- Assumes nothing.
 use Prim.Native.Nat.{ℕ, ◌+◌, ◌≤◌, ◌<◌}
-use mathlib.Core.Path.{◌≡◌, ap, ◌∙◌}
+use mathlib.Core.Path.{◌≡◌}
 use mathlib.Core.List.{List}
 use mathlib.Core.Bool.{and-false}
 use borrow.Author.Tests.{lt-ltb, le-ltb}
 use lib.ListN.{length}
-use Rattle.tables.proofs.Tests.{told}
-use Rattle.magic.specs.declared.Magic.{Magic}
 use Rattle.magic.specs.declared.Magic.TheVariants.{Ds2}
-use Rattle.detect.specs.declared.AudioFormat.{AudioFormat}
 use Rattle.detect.specs.declared.AudioFormat.TheVariants.{None, DssSp, GrundigSp}
 use Rattle.detect.specs.Start.{audio_start}
 use Rattle.detect.specs.Kinds.{format_type, format_of}
-use Rattle.magic.specs.Magics.{magic_of}
 use Rattle.magic.specs.Beginnings.{dss_file}
 use Rattle.magic.specs.Withdrawn.{encrypted}
 use Rattle.magic.proofs.Beginnings.{dss_magics}
 use Rattle.magic.proofs.Withdrawn.{encrypted_is_none}
 use Rattle.detect.specs.Format.{format_by, detected}
-
-pub detected_as : {r : AudioFormat} (f : List ℕ) {m n : Magic} → m ≡ magic_of f → m ≡ n → r ≡ format_by n f → r ≡ detected f
-unfolding detected
-detected_as f p q e = e ∙ ap (λ (m : Magic). format_by m f) (told q p)
 
 -- DSS and Grundig files are named by their four bytes alone, whatever follows.
 pub named_by_four : (rest : List ℕ)

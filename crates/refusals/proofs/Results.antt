@@ -3,7 +3,7 @@
 use Rattle.std.specs.Prelude.{ℕ, ◌≡◌, List, true, false, cond, eqb, Result, Ok, Err}
 use Rattle.std.specs.Result.{is_ok}
 use Rattle.tables.proofs.Cases.{never}
-use mathlib.Core.Path.{refl, ap, sym, ◌∙◌}
+use mathlib.Core.Path.{refl, ap, sym}
 use Rattle.refusals.specs.declared.Refusal.{Refusal}
 use Rattle.refusals.specs.declared.Refusal.TheVariants.{Magic, Limit, Header, Selector, Record, Ended, Overflow, Room, Segments, Kind, OtherKind, Absent, Inside, Owed, Supplied, Packet, TooLong, Beyond, Index, IndexVersion, IndexEntry, Choice}
 use Rattle.refusals.specs.declared.Numbers.{Numbers}
@@ -69,9 +69,6 @@ result_from (refusal why) = Err (refusal_from why)
 pub result_back : {A : Type 0} (x : Result A Refusal) → result_from (result_says x) ≡ x
 result_back (Ok a) = refl
 result_back (Err why) = ap (λ (w : Refusal). Err w) (refusal_back why)
-
-pub same_refusal : (one other : Refusal) → in_numbers one ≡ in_numbers other → one ≡ other
-same_refusal one other e = sym (refusal_back one) ∙ ap refusal_from e ∙ refusal_back other
 
 pub only_result : {A : Type 0} (x y : Result A Refusal) (said : Said A) → result_says x ≡ said → result_says y ≡ said → x ≡ y
 only_result x y said p q = only_one result_says result_from result_back x y said p q

@@ -17,10 +17,6 @@ pub both_hold : (a b : Bool) → (a && b) ≡ true → (a ≡ true) × (b ≡ tr
 both_hold true b e = (refl, e)
 both_hold false b e = (e, cc)
 
--- the last test of a chain decides
-pub last_of_all : {a b r : Bool} → a ≡ true → r ≡ b → r ≡ (a && b)
-last_of_all p q = rw p q
-
 -- two tests of which each holds if the other does are the same
 pub same_tests : (a b c d : ℕ) → (a < b → c < d) → (c < d → a < b) → ltb a b ≡ ltb c d
 same_tests a b c d there back =

@@ -10,10 +10,9 @@ use borrow.Author.Tests.{leb-true, le-leb, lt-leb, lt-ltb}
 use lib.ListN.{length, get_or}
 use lib.Dec.{leb}
 use Rattle.tables.proofs.Cases.{by_order}
-use Rattle.tables.proofs.Tests.{told}
 use Rattle.blocks.specs.Places.{limit, whole_blocks}
 use Rattle.refusals.specs.declared.Numbers.{Numbers}
-use Rattle.refusals.specs.Said.{Said, answers, refuses, demand, refusal}
+use Rattle.refusals.specs.Said.{answers, refuses, demand, refusal}
 use Rattle.refusals.proofs.Said.{passed, not_both, went_on}
 use Rattle.detect.specs.declared.Kind.{Kind}
 use Rattle.detect.specs.Kinds.{format_type, kind_of, read_as}
@@ -51,11 +50,6 @@ bare_header f a few bare = sym (admitted f true a refl few (omega arith) 0 (omeg
 
 pub cut_header : (f : List ℕ) (a : ℕ) → length f ≤ limit → length f < a → admission_at f a ≡ refuses 3 a
 cut_header f a few cut = sym (refused_3 f true a refl few cut)
-
-pub admission_as : {said : Said Recording} (f : List ℕ) (dss ds2 : Bool) {m n : Magic} → m ≡ magic_of f → m ≡ n
-    → said ≡ admission_by n f dss ds2 → said ≡ admission f dss ds2
-unfolding admission
-admission_as f dss ds2 p q e = e ∙ ap (λ (m : Magic). admission_by m f dss ds2) (told q p)
 
 -- the recording is the one at the audio start, and its header is whole
 recorded : (f : List ℕ) (a : ℕ) (rec : Recording) → admission_at f a ≡ answers rec
