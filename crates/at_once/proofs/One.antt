@@ -17,7 +17,7 @@ use Rattle.sp.specs.Outcome.{in_room, answered, Demuxes}
 use Rattle.sp.specs.Written.{Written}
 use Rattle.sp.proofs.Theorems.{accepted_writes, packets_stand, room_decides}
 use Rattle.at_once.specs.Agreement.{OnePacket}
-use Rattle.std.specs.Prelude.{Result, Ok, Err}
+use Rattle.std.specs.Prelude.{Result}
 use Rattle.refusals.specs.declared.Refusal.{Refusal}
 
 -- one packet needs room for one

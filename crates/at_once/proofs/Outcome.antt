@@ -8,7 +8,6 @@ use native.Mathlib.Omega.{arith}
 use borrow.Author.Tests.{lt-ltb, le-ltb, leb-true}
 use lib.Dec.{leb}
 use Rattle.blocks.specs.Headers.{swap_of}
-use Rattle.refusals.specs.Numbers.{numbered}
 use Rattle.refusals.specs.Said.{answers}
 use Rattle.whole.specs.declared.Recording.{Recording}
 use Rattle.whole.specs.Admissions.{announced_by, stream_in}

@@ -27,7 +27,7 @@ use Rattle.at_once.proofs.Straight.{is_one_packet, below_total, not_below}
 use Rattle.at_once.proofs.One.{one_said, one_handed, one_of_whole}
 use Rattle.at_once.proofs.ds2_sp_packet.Kinds as packet
 use Rattle.at_once.proofs.ds2_sp_packet.Reads as packet-reads
-use Rattle.std.specs.Prelude.{Result, Ok, Err}
+use Rattle.std.specs.Prelude.{Result}
 use Rattle.refusals.specs.declared.Refusal.{Refusal}
 
 module _ (f : List ℕ) (k : ℕ) where

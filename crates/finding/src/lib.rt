@@ -27,7 +27,7 @@ use sp::Run;
 use whole::Recording;
 
 // For the crates above too. Of so many entries, which begin at a place of an index, one that begins at or before a packet and is followed by none or
-// by one that begins after it, by halving.
+// by one that begins after it, by halving. Entries lie as bytes in the index, so no method of a slice of values searches them.
 pub fn search(index: &[u8], front: usize, entries: usize, packet: usize) -> usize
     requires there { entry_place front entries ≤ length index.now }
     requires begins { (0 < entries) × (first_at index.now front 0 ≤ packet) }

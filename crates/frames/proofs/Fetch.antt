@@ -22,7 +22,7 @@ use Rattle.whole.specs.declared.Recording.{Recording}
 use Rattle.whole.specs.Admissions.{Sound, admission, stream_in}
 use Rattle.whole.proofs.Admissions.{sound}
 use Rattle.frames.specs.declared.Fetched.{Fetched}
-use Rattle.std.specs.Prelude.{Result, Ok, Err}
+use Rattle.std.specs.Prelude.{Result, Err}
 use Rattle.refusals.specs.declared.Refusal.{Refusal}
 use Rattle.refusals.specs.Numbers.{in_numbers}
 use Rattle.frames.specs.Fetch.{can_fetch, fetch_from, is_inside, in_file, in_scratch, stand_in, standing, fetched_says, filled_from, filled, shown_from, shown, Fills}

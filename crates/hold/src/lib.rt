@@ -24,7 +24,7 @@ pub mod bytes;
 // DSS blocks that wait.
 pub mod waiting;
 
-// The most bytes that are held.
+// The most bytes that are held. What is held lies in arrays with numbers beside them, and in no Vec: a reader has fixed memory and no heap.
 pub const HOLD: usize = 12288;
 
 // The numbers beside the hold: frames announced, packets ready, where the hold begins, the first block's byte 0, what is carried.

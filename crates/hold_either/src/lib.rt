@@ -1,5 +1,6 @@
 // A recording of either kind, block by block: the packets that become ready by a block are handed out, and those that are owed at the end.
 // Rests on hold_ds2 and hold_dss, on hold, for the blocks that wait, and on blocks. What is public here is for the crates above.
+// `dss` is a reader's kind, known only as it runs: a trait or a closure for each kind would leave this choice to the caller, and two laws there.
 #![tactic(auto)]
 
 ghost use Rattle.std.specs.Prelude.{◌≡◌, ◌+◌, length};

@@ -18,7 +18,8 @@ fn read_once(rt: &impl Input, space: &mut [u8]) -> usize
     }
 }
 
-// Reads standard input until the buffer is full, the input ends or a read fails, and answers how many bytes there are.
+// Reads standard input until the buffer is full, the input ends or a read fails, and answers how many bytes there are. How many reads that
+// takes nobody knows, and what std has for it wants the heap.
 fn read_full(rt: &impl Input, space: &mut [u8]) -> usize
     ensures { result ≤ length space.new }
 {

@@ -170,7 +170,7 @@ fn judge_ds2(
     fit_in(ready.saturating_sub(was.ready), room)
 }
 
-// The same of either kind. Every DSS block fits.
+// The same of either kind, which is known only as a reader runs (hold_either). Every DSS block fits.
 fn judge(
     dss: bool,
     a: FilePlace,

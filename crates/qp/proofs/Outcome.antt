@@ -12,8 +12,6 @@ use lib.Dec.{leb, ltb}
 use Rattle.tables.specs.Entries.{fronted}
 use Rattle.tables.proofs.Cases.{by_order}
 use Rattle.tables.proofs.Entries.{in_turn_long, fronts_all, fronts_nothing}
-use Rattle.refusals.specs.declared.Numbers.{Numbers}
-use Rattle.refusals.specs.Numbers.{numbered}
 use Rattle.refusals.specs.Said.{Said, answers, refusal, result_says}
 use Rattle.refusals.proofs.Said.{went_on, asked_of}
 use Rattle.whole.specs.declared.Recording.{Recording}

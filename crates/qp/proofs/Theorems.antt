@@ -38,7 +38,7 @@ use Rattle.qp.proofs.Kept.{totals_add_up, handed_or_missing, all_lie, all_reset}
 use Rattle.qp.proofs.Outcome.{accepted_read, Seen, only_outcome}
 use Rattle.qp.proofs.demux_ds2_qp.Kinds as qp
 use Rattle.qp.proofs.demux_ds2_qp.Reads as qp-reads
-use Rattle.std.specs.Prelude.{Result, Ok, Err}
+use Rattle.std.specs.Prelude.{Result}
 use Rattle.refusals.specs.declared.Refusal.{Refusal}
 
 module _ (reading : Said Reading) (table table' : List ℕ) (answer : Result Totals Refusal) (d : Demuxes reading table table' answer) where

@@ -1,6 +1,6 @@
 -- What the QP call answers and leaves in the lent table, given its reading: refusal 9 with the segments needed, or all the segments'
 -- entries. A refused call leaves everything as it was. Assumes nothing.
-use Rattle.std.specs.Prelude.{ℕ, ◌/◌, ◌≡◌, List, [], ◌∷◌, length, leb, Result, Ok, Err}
+use Rattle.std.specs.Prelude.{ℕ, ◌/◌, ◌≡◌, List, [], ◌∷◌, length, leb, Result}
 use Rattle.tables.specs.Entries.{in_turn, fronted}
 use Rattle.refusals.specs.Said.{Said, answers, refusal, demand, onward, result_says}
 use Rattle.qp.specs.declared.Segment.{Segment}

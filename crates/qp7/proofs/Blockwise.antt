@@ -21,7 +21,7 @@ use Rattle.qp7.specs.Inner.{numbers_of, numbers_at, Near, RecordsHold, SegmentsH
 use Rattle.qp7.proofs.Standing.{stands_by}
 use Rattle.qp7.proofs.Closing.{closing_records, closes_unwritten}
 use Rattle.qp7.proofs.Reading.{same_segments}
-use Rattle.std.specs.Prelude.{Result, Ok, Err}
+use Rattle.std.specs.Prelude.{Result, Ok}
 use Rattle.refusals.specs.declared.Refusal.{Refusal}
 
 -- the read place of a walk was raised, and nothing else of it changed

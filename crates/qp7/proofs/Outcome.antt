@@ -9,8 +9,6 @@ use lib.ListN.{length}
 use lib.Dec.{leb}
 use Rattle.tables.specs.Entries.{fronted}
 use Rattle.tables.proofs.Entries.{in_turn_long, fronts_none, fronts_begin, fronts_all}
-use Rattle.refusals.specs.declared.Numbers.{Numbers}
-use Rattle.refusals.specs.Numbers.{numbered}
 use Rattle.refusals.specs.Said.{Said, answers, refuses, refusal, demand, result_says}
 use Rattle.refusals.proofs.Said.{passed, went_on, for_the_answer}
 use Rattle.whole.specs.declared.Recording.{Recording}

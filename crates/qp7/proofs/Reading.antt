@@ -8,7 +8,6 @@ use native.Mathlib.Omega.{arith}
 use lib.ListN.{length, length-append}
 use Rattle.tables.specs.Inner.{Puts}
 use Rattle.tables.proofs.Entries.{fronts_more}
-use Rattle.refusals.specs.declared.Numbers.{Numbers}
 use Rattle.refusals.specs.declared.Refusal.{Refusal}
 use Rattle.refusals.specs.Numbers.{in_numbers}
 use Rattle.refusals.specs.Said.{Said, answers, onward, refusal}
@@ -18,7 +17,7 @@ use Rattle.qp7.specs.Records.{record_at}
 use Rattle.qp7.specs.Walk.{Gathered, noted, reads}
 use Rattle.qp7.specs.Inner.{numbers_of, numbers_at, RecordsHold, ReadsOn}
 use Rattle.qp7.proofs.Standing.{stands_by}
-use Rattle.std.specs.Prelude.{Result, Ok, Err}
+use Rattle.std.specs.Prelude.{Ok, Err}
 
 -- k of `count` records were read from g on, the last up to `place`: what was gathered, and what is left of it to be read
 pub record Came (s : ℕ → ℕ) (long count most : ℕ) (g : Gathered) (records records' : List ℕ) (place k : ℕ) : Type 0 where

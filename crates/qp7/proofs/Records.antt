@@ -1,20 +1,17 @@
 -- A record's size by its second byte, and the ways of finding a record at a place: refusals 4 and 5, or the record.
 -- Assumes nothing.
 use Prim.Native.Nat.{ℕ, ◌+◌, ◌≤◌, ◌<◌}
-use mathlib.Core.Path.{◌≡◌, sym, ap, ◌∙◌}
+use mathlib.Core.Path.{◌≡◌, ap}
 use mathlib.Core.Bool.{true, false}
 use native.Mathlib.Omega.{arith}
 use borrow.Author.Tests.{le-leb, lt-leb, leb-true}
 use lib.Dec.{leb}
 use Rattle.tables.proofs.Cases.{by_order}
 use Rattle.blocks.specs.Headers.{flag_of}
-use Rattle.refusals.specs.declared.Numbers.{Numbers}
 use Rattle.refusals.specs.Numbers.{lacking}
-use Rattle.refusals.specs.Said.{Said, answers, refusal, result_says}
-use Rattle.refusals.proofs.Said.{passed_by, not_both}
+use Rattle.refusals.specs.Said.{answers, refusal}
+use Rattle.refusals.proofs.Said.{passed_by}
 use Rattle.qp7.specs.Records.{record_size, absent_of, record_at}
-use Rattle.std.specs.Prelude.{Result, Ok, Err}
-use Rattle.refusals.specs.declared.Refusal.{Refusal}
 
 -- bit 7 is on
 pub long_size : (second : ℕ) → 128 ≤ second → record_size second ≡ 56

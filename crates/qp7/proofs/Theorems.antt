@@ -38,7 +38,7 @@ use Rattle.qp7.proofs.Words.{tables_by}
 use Rattle.qp7.proofs.Outcome.{segment_words_lem, room_8, room_9, room_for_all, accepted_read, Seen, only_outcome}
 use Rattle.qp7.proofs.demux_ds2_qp7.Kinds as qp7
 use Rattle.qp7.proofs.demux_ds2_qp7.Reads as qp7-reads
-use Rattle.std.specs.Prelude.{Result, Ok, Err}
+use Rattle.std.specs.Prelude.{Result}
 use Rattle.refusals.specs.declared.Refusal.{Refusal}
 
 -- The records of an accepted file are as many as the count bytes of all whole blocks add up to.

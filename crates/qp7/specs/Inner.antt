@@ -1,8 +1,8 @@
 -- What only contracts of inner functions speak of: how the code's walk stands for what was gathered, and what it leaves in the two tables
 -- when it writes as many records and segments as it is told, which may be none. Assumes nothing.
-use Rattle.std.specs.Prelude.{ℕ, ◌*◌, ◌≤◌, ◌≡◌, List, length, Result, Ok, Err}
+use Rattle.std.specs.Prelude.{ℕ, ◌*◌, ◌≤◌, ◌≡◌, List, length, Result}
 use Rattle.tables.specs.Inner.{Fronts}
-use Rattle.refusals.specs.Said.{Said, answers, refusal, onward, result_says}
+use Rattle.refusals.specs.Said.{Said, answers, onward, result_says}
 use Rattle.qp7.specs.declared.Totals.{Totals}
 use Rattle.qp7.specs.declared.Walk.{Walk}
 use Rattle.qp7.specs.Walk.{Gathered, closing, reads}

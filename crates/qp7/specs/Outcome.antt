@@ -1,6 +1,6 @@
 -- What the QP7 call answers and leaves in the two lent tables, given its reading: refusals 8 and 9 with the records or segments needed, or
 -- both tables. A refused call leaves everything as it was. Assumes nothing.
-use Rattle.std.specs.Prelude.{ℕ, ◌+◌, ◌*◌, ◌/◌, ◌≤◌, ◌<◌, ◌≡◌, List, [], ◌∷◌, length, get_or, leb, Result, Ok, Err}
+use Rattle.std.specs.Prelude.{ℕ, ◌+◌, ◌*◌, ◌/◌, ◌≤◌, ◌<◌, ◌≡◌, List, [], ◌∷◌, length, get_or, leb, Result}
 use Rattle.tables.specs.Entries.{in_turn, fronted}
 use Rattle.refusals.specs.Said.{Said, answers, refusal, demand, onward, result_says}
 use Rattle.qp7.specs.declared.Segment.{Segment}

@@ -1,10 +1,9 @@
 -- A QP7 record: how long it is by its second byte, when it cannot be read, and how many bytes are absent then.
 -- Assumes nothing.
-use Rattle.std.specs.Prelude.{ℕ, ◌+◌, ◌-◌, cond, leb, Result, Ok, Err}
+use Rattle.std.specs.Prelude.{ℕ, ◌+◌, ◌-◌, cond, leb}
 use Rattle.blocks.specs.Headers.{flag_of}
 use Rattle.refusals.specs.Numbers.{lacking}
-use Rattle.refusals.specs.Said.{Said, answers, refusal, demand_by, result_says}
-use Rattle.refusals.specs.declared.Refusal.{Refusal}
+use Rattle.refusals.specs.Said.{Said, answers, demand_by}
 
 -- 56 bytes if bit 7 of the second byte is 1, else 12
 unfoldable pub record_size : ℕ → ℕ

@@ -12,7 +12,6 @@ use Rattle.tables.proofs.Cases.{by_equal}
 use Rattle.tables.proofs.Table.{sum_more, sum_none}
 use Rattle.blocks.specs.Places.{stream_at}
 use Rattle.blocks.specs.Headers.{first_of, count_of}
-use Rattle.refusals.specs.declared.Numbers.{Numbers}
 use Rattle.refusals.specs.Said.{Said, answers, onward, result_says}
 use Rattle.refusals.proofs.Said.{for_the_answer}
 use Rattle.whole.specs.declared.Recording.{Recording}
@@ -32,7 +31,7 @@ use Rattle.tally.specs.declared.FileKind.TheVariants.{Ds2Qp7}
 use Rattle.tally.specs.declared.HandedOut.{HandedOut}
 use Rattle.tally.specs.HandedOut.{sizes_of, records_out}
 use Rattle.tally.specs.Tallies.{handed_by}
-use Rattle.std.specs.Prelude.{Result, Ok, Err}
+use Rattle.std.specs.Prelude.{Err}
 use Rattle.refusals.specs.declared.Refusal.{Refusal}
 
 -- records that are read follow one another: they have as many bytes as the read place moves

@@ -12,7 +12,7 @@ use Rattle.tables.proofs.Counting.{none_counted}
 use Rattle.blocks.specs.Headers.{Bytes}
 use Rattle.refusals.specs.declared.Numbers.{Numbers}
 use Rattle.refusals.specs.Numbers.{OfRecord}
-use Rattle.refusals.specs.Said.{answers, refusal, refuses, is_among, Numbered, result_says}
+use Rattle.refusals.specs.Said.{answers, refusal, refuses, is_among, Numbered}
 use Rattle.refusals.proofs.Said.{not_both, by_onward, went_on, for_the_answer}
 use Rattle.refusals.proofs.Numbered.{not_of_record}
 use Rattle.magic.specs.declared.Magic.TheVariants.{Other}
@@ -45,8 +45,6 @@ use Rattle.tally.proofs.Agreeing.{agrees, counting}
 use Rattle.tally.proofs.Refusing.{tallying}
 use Rattle.tally.proofs.tally.Kinds as tally
 use Rattle.tally.proofs.tally.Reads as tally-reads
-use Rattle.std.specs.Prelude.{Result, Ok, Err}
-use Rattle.refusals.specs.declared.Refusal.{Refusal}
 use Rattle.refusals.proofs.Results.{only_result}
 
 -- The tally says of every file what the whole reading of its kind hands out, and refuses exactly as that reading does.

@@ -1,7 +1,7 @@
 -- The tally of any file: its kind, audio start, whole blocks, announced frames, and what its whole reading hands out; or the refusal
 -- that the whole reading gives. Assumes nothing.
-use Rattle.std.specs.Prelude.{ℕ, List, [], ◌∷◌, Bool, cond, not, Result, Ok, Err}
-use Rattle.refusals.specs.Said.{Said, answers, refusal, onward, result_says}
+use Rattle.std.specs.Prelude.{ℕ, List, [], ◌∷◌, Bool, cond, not}
+use Rattle.refusals.specs.Said.{Said, answers, onward}
 use Rattle.magic.specs.Magics.{names_dss}
 use Rattle.whole.specs.declared.Recording.{Recording}
 use Rattle.detect.specs.declared.Kind.{Kind}
@@ -17,7 +17,6 @@ use Rattle.tally.specs.declared.FileKind.{FileKind}
 use Rattle.tally.specs.declared.FileKind.TheVariants.{DssSp, Ds2Sp, Ds2Qp, Ds2Qp7}
 use Rattle.tally.specs.declared.Figures.{Figures}
 use Rattle.tally.specs.HandedOut.{packets_out, frames_out, records_out}
-use Rattle.refusals.specs.declared.Refusal.{Refusal}
 
 -- of a recording of this kind that hands out so much
 abbrev pub figures_of : FileKind → List ℕ → Recording → HandedOut → Figures

@@ -13,7 +13,8 @@ use detect::Kind;
 use magic::Magic;
 use refusals::Refusal;
 
-// A file that a whole call takes: where its audio starts, and how many whole blocks follow.
+// A file that a whole call takes: where its audio starts, and how many whole blocks follow. It does not hold the file, although the two travel
+// together and clauses say `Sound file.now recording`: a struct with a reference in it has its moments too, and the clauses would be longer.
 #[derive(Clone, Copy, Debug, PartialEq, Eq)]
 pub struct Recording {
     pub start: FilePlace,

@@ -1,6 +1,5 @@
 -- `entries::add_up` meets its contract: before each block so many entries and packets are counted.
 -- Assumes nothing.
-use Prim.Native.Nat.{◌-◌}
 use Rattle.entries.proofs.Blockwise.{Before}
 use Rattle.entries.proofs.add_up.Given as goal
 

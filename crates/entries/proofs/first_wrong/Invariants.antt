@@ -1,6 +1,5 @@
 -- `entries::first_wrong` meets its contract: before each block the entries of those before it stand in the index.
 -- Assumes nothing.
-use Prim.Native.Nat.{◌-◌}
 use Rattle.entries.proofs.Blockwise.{StandsUpto}
 use Rattle.entries.proofs.first_wrong.Given as goal
 

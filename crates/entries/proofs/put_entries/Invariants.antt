@@ -1,6 +1,5 @@
 -- `entries::put_entries` meets its contract: before each block the entries of those before it are laid.
 -- Assumes nothing.
-use Prim.Native.Nat.{◌-◌}
 use Rattle.entries.proofs.Blockwise.{LaidUpto}
 use Rattle.entries.proofs.put_entries.Given as goal
 

@@ -1,10 +1,9 @@
 -- `entries::stands` meets its contract: a place that is cut, and else word for word.
 -- Assumes nothing.
-use mathlib.Core.Path.{sym, ◌∙◌}
+use mathlib.Core.Path.{◌∙◌}
 use native.Mathlib.Omega.{arith}
 use borrow.Author.Tests.{lt-leb}
 use Rattle.entries.proofs.Held.{stands_cut, words_stand}
-use Rattle.std.proofs.Common.{rules}
 use Rattle.entries.proofs.stands.Goals as goal
 
 pub returns-then-at-index : goal.returns-then-at-index

@@ -1,6 +1,6 @@
 -- `laying::begin` meets its contract: the header is copied, then each block so far is silent.
 -- Assumes nothing.
-use Prim.Native.Nat.{◌*◌, ◌-◌, ◌≤◌}
+use Prim.Native.Nat.{◌*◌, ◌≤◌}
 use Rattle.tables.specs.Lent.{Leaves}
 use Rattle.laying.proofs.Steps.{silent_at}
 use Rattle.laying.proofs.begin.Given as goal

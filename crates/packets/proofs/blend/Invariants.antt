@@ -1,6 +1,6 @@
 -- `packets::blend` meets its contract: each place has the blend of the two shifts so far.
 -- Assumes nothing.
-use Prim.Native.Nat.{◌+◌, ◌-◌, ◌%◌, ◌≤◌}
+use Prim.Native.Nat.{◌+◌, ◌%◌}
 use mathlib.Core.Path.{◌≡◌}
 use mathlib.Core.Bool.{cond}
 use lib.ListN.{length, get_or}

@@ -1,6 +1,5 @@
 -- `qp::write_segments` meets its contract: after b blocks the table holds what they have closed, and the end closes the last.
 -- Assumes nothing.
-use Prim.Native.Nat.{◌-◌}
 use Rattle.qp.proofs.Blockwise.{Blockwise}
 use Rattle.qp.proofs.write_segments.Given as goal
 

@@ -4,14 +4,12 @@ use Prim.Native.Nat.{◌+◌}
 use mathlib.Core.Path.{◌≡◌, refl, sym, ap}
 use native.Mathlib.Omega.{arith}
 use Rattle.std.proofs.lemmas.Result.{err_from_is_err_and}
-use Rattle.tables.proofs.Tests.{told}
 use Rattle.qp7.specs.declared.Walk.{Walk}
 use Rattle.qp7.proofs.Records.{record_found}
 use Rattle.qp7.proofs.Reading.{reading_goes_on, reading_stops, reading_ends}
 use borrow.Author.Rules.{rules}
 use Rattle.std.proofs.Common.{rules, ◌≡◌, ◌+◌}
 use Rattle.qp7.proofs.read_records.Goals as goal
-use Rattle.refusals.specs.Said.{result_says}
 
 pub returns-in_err-size-clause-on : goal.returns-in_err-size-clause-on
 returns-in_err-size-clause-on c =

@@ -1,6 +1,6 @@
 -- `qp7::walk_blocks` meets its contract: the walk stands for what the blocks so far gather.
 -- Assumes nothing.
-use Prim.Native.Nat.{◌-◌, ◌≤◌}
+use Prim.Native.Nat.{◌≤◌}
 use mathlib.Core.Path.{◌≡◌}
 use lib.ListN.{length}
 use Rattle.qp7.proofs.Gathering.{Gathers}

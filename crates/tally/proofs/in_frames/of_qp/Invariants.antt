@@ -1,6 +1,5 @@
 -- `tally::in_frames::of_qp` meets its contract: it adds up the segments as the blocks close them, and then the open one.
 -- Assumes nothing.
-use Prim.Native.Nat.{◌-◌}
 use Rattle.qp.proofs.Blockwise.{Blockwise}
 use Rattle.tally.proofs.Segmentwise.{Handing}
 use Rattle.tally.proofs.in_frames.of_qp.Given as goal

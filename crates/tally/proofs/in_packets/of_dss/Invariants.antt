@@ -1,6 +1,5 @@
 -- `tally::in_packets::of_dss` meets its contract: after b blocks it has what their runs hand out.
 -- Assumes nothing.
-use Prim.Native.Nat.{◌-◌}
 use Rattle.blocks.specs.Places.{stream_at}
 use Rattle.tally.proofs.Runwise.{Runwise}
 use Rattle.tally.proofs.in_packets.of_dss.Given as goal

@@ -1,6 +1,6 @@
 -- `tally::in_records::of_qp7` meets its contract: the walk stands for what the blocks so far gather, and the bytes are those of its records.
 -- Assumes nothing.
-use Prim.Native.Nat.{◌-◌, ◌≤◌}
+use Prim.Native.Nat.{◌≤◌}
 use Rattle.tally.proofs.Recordwise.{Tallying}
 use Rattle.tally.proofs.in_records.of_qp7.Given as goal
 
