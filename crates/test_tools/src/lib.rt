@@ -101,6 +101,13 @@ pub fn from_place(file: &mut [u8], from: usize) -> &mut [u8] {
     &mut file[at..]
 }
 
+// So many values of a list from a place on, as far as it has them.
+pub fn part<T: Copy>(values: &[T], from: usize, many: usize) -> &[T] {
+    let begin = from.min(values.len());
+    let long = many.min(values.len() - begin);
+    &values[begin..begin + long]
+}
+
 // Bytes from a place on, as far as the file has these places.
 pub fn put(file: &mut [u8], from: usize, bytes: &[u8]) {
     for (place, byte) in from_place(file, from).iter_mut().zip(bytes) {
@@ -110,16 +117,19 @@ pub fn put(file: &mut [u8], from: usize, bytes: &[u8]) {
 
 // A digest with the first n numbers more, or with all if there are fewer.
 pub fn digest<T: Copy + Into<u64>>(before: u64, numbers: &[T], n: usize) -> u64 {
+    digest_all(before, part(numbers, 0, n))
+}
+
+// A digest with some numbers more.
+pub fn digest_all<T: Copy + Into<u64>>(before: u64, numbers: &[T]) -> u64 {
     numbers
         .iter()
-        .take(n)
         .fold(before, |digest, number| mix(digest, (*number).into()))
 }
 
 // A digest with up to 64 bytes more, from a place on: what a call was to leave as it was.
 pub fn digest_past(before: u64, bytes: &[u8], from: usize) -> u64 {
-    let at = from.min(bytes.len());
-    digest(before, &bytes[at..], 64)
+    digest_all(before, part(bytes, from, 64))
 }
 
 // The first n bytes made again what lent bytes are before a call.
