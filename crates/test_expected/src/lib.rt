@@ -63,6 +63,7 @@ impl<'a> Numbers<'a> {
 }
 
 // The list as it is replayed: what of it is not read, in which case and at which answer that is, and how many answers and wrong ones there were.
+#[derive(Drop)]
 pub struct Replay<'a, R: Print> {
     rt: &'a R,
     pub numbers: Numbers<'a>,

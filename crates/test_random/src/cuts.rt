@@ -5,7 +5,7 @@ use std::io;
 use test_generated::cuts::{Way, cuts_by, is_tried, times_by};
 use test_generated::tried::{Tried, with_file};
 use test_generated::{Made, is_sp};
-use test_readings::Whole;
+use test_readings::Reading;
 
 // A file by its number, and its whole reading.
 #[derive(Clone, Copy)]
@@ -13,7 +13,7 @@ pub struct File<'a> {
     pub number: u64,
     pub made: Made,
     pub bytes: &'a [u8],
-    pub whole: Whole,
+    pub whole: Reading,
 }
 
 // So many cuts of a file, by numbers.

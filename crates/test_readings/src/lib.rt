@@ -58,15 +58,15 @@ impl Told {
 
 // A file's whole reading: what a tally has of it, and digests of what is handed out and of its packets' counts.
 #[derive(Clone, Copy)]
-pub struct Whole {
+pub struct Reading {
     pub told: Told,
     pub digest: u64,
     pub digest_of_counts: u64,
 }
 
-impl Whole {
+impl Reading {
     fn refused(why: Refusal) -> Self {
-        Whole {
+        Reading {
             told: Told::refused(why),
             digest: 0,
             digest_of_counts: 0,
@@ -143,10 +143,10 @@ fn sum_of(counts: &[u8]) -> u64 {
 }
 
 // What the SP call of a family handed out, in so many packets.
-fn read_sp(file: &[u8], made: Made, ds2: bool, many: usize, out: &[u8], counts: &[u8]) -> Whole {
+fn read_sp(file: &[u8], made: Made, ds2: bool, many: usize, out: &[u8], counts: &[u8]) -> Reading {
     let packets = part(out, 0, test_tools::packet_bytes(many));
     let counts = part(counts, 0, many);
-    Whole {
+    Reading {
         told: Told {
             kind: u64::from(ds2),
             start: made.start as u64,
@@ -163,16 +163,16 @@ fn read_sp(file: &[u8], made: Made, ds2: bool, many: usize, out: &[u8], counts: 
 }
 
 // The whole SP reading, as DS2 or as DSS.
-fn whole_sp(file: &[u8], made: Made, ds2: bool, out: &mut [u8], counts: &mut [u8]) -> Whole {
+fn whole_sp(file: &[u8], made: Made, ds2: bool, out: &mut [u8], counts: &mut [u8]) -> Reading {
     match test_sums::demux(file, !ds2, out, counts) {
         Ok(many) => read_sp(file, made, ds2, many, out, counts),
-        Err(why) => Whole::refused(why),
+        Err(why) => Reading::refused(why),
     }
 }
 
 // What a table hands out, of a kind and so many frames announced.
-fn gathered(kind: u64, made: Made, announced: usize, all: Gathered) -> Whole {
-    Whole {
+fn gathered(kind: u64, made: Made, announced: usize, all: Gathered) -> Reading {
+    Reading {
         told: Told {
             kind,
             start: made.start as u64,
@@ -188,18 +188,18 @@ fn gathered(kind: u64, made: Made, announced: usize, all: Gathered) -> Whole {
     }
 }
 
-fn whole_qp(file: &[u8], made: Made) -> Whole {
+fn whole_qp(file: &[u8], made: Made) -> Reading {
     let mut table = [0u32; 256];
     match qp::demux_ds2_qp(file, &mut table) {
         Ok(totals) => {
             let all = test_fetched::of_segments(file, &table, totals.segments);
             gathered(2, made, totals.announced, all)
         }
-        Err(why) => Whole::refused(why),
+        Err(why) => Reading::refused(why),
     }
 }
 
-fn whole_qp7(file: &[u8], made: Made) -> Whole {
+fn whole_qp7(file: &[u8], made: Made) -> Reading {
     let mut records = [0u32; 512];
     let mut segments = [0u32; 256];
     match qp7::demux_ds2_qp7(file, &mut records, &mut segments) {
@@ -207,12 +207,12 @@ fn whole_qp7(file: &[u8], made: Made) -> Whole {
             let all = test_fetched::of_records(file, &records, &segments, totals.segments);
             gathered(3, made, totals.records, all)
         }
-        Err(why) => Whole::refused(why),
+        Err(why) => Reading::refused(why),
     }
 }
 
 // The table reading of a QP or QP7 file.
-fn whole_table(file: &[u8], made: Made) -> Whole {
+fn whole_table(file: &[u8], made: Made) -> Reading {
     if made.kind == 6 {
         whole_qp(file, made)
     } else {
@@ -221,7 +221,7 @@ fn whole_table(file: &[u8], made: Made) -> Whole {
 }
 
 // The whole reading of any file. One of QP or QP7 blocks that announce nothing has type 0, and is read as DS2 SP.
-pub fn whole(file: &[u8], made: Made, out: &mut [u8], counts: &mut [u8]) -> Whole {
+pub fn whole(file: &[u8], made: Made, out: &mut [u8], counts: &mut [u8]) -> Reading {
     if made.kind < 6 {
         return whole_sp(file, made, made.kind == 0, out, counts);
     }
