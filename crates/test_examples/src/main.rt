@@ -131,7 +131,7 @@ fn example_5(rt: &impl Print) -> io::Result<()> {
 }
 
 fn sum(counts: &[u8; 13]) -> usize {
-    counts.iter().map(|count| usize::from(*count)).sum()
+    counts.iter().fold(0, |sum: usize, count| sum.wrapping_add(usize::from(*count)))
 }
 
 // One block, flag 0, that announces 13 packets.
