@@ -78,7 +78,8 @@ fn one_file(
     counts: &mut [u8],
 ) -> io::Result<Tried> {
     let made = test_generated::plan(number);
-    let bytes = &mut space[..made.long.min(space.len())];
+    let long = made.long.min(space.len());
+    let bytes = &mut space[..long];
     test_generated::make(number, made, bytes);
     let file = File {
         number,
