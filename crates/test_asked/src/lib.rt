@@ -29,7 +29,17 @@ pub fn detection<R: Print>(replay: &mut Replay<'_, R>, file: &[u8]) -> io::Resul
     replay.expect_all(&[format_number(format), start.0 as u64, u64::from(byte)])
 }
 
-// The whole SP call of a family, what it answered and left, and lent memory made again as it was before the call.
+// What a whole SP call answered and left.
+fn packets<R: Print>(
+    replay: &mut Replay<'_, R>,
+    answer: Result<usize, Refusal>,
+    out: &[u8],
+    counts: &[u8],
+) -> io::Result<()> {
+    replay.expect_all(&test_sums::left(answer, out, counts))
+}
+
+// The whole SP call of a family, and lent memory made again as it was before the call.
 fn whole_sp<R: Print>(
     replay: &mut Replay<'_, R>,
     file: &[u8],
@@ -38,7 +48,7 @@ fn whole_sp<R: Print>(
     counts: &mut [u8],
 ) -> io::Result<()> {
     let answer = test_sums::demux(file, dss, out, counts);
-    replay.expect_all(&test_sums::left(answer, out, counts))?;
+    packets(replay, answer, out, counts)?;
     out.fill(165);
     counts.fill(165);
     Ok(())
@@ -60,13 +70,14 @@ fn words(width: usize, entries: usize) -> usize {
     entries.saturating_mul(width).saturating_add(16)
 }
 
-// The whole QP call, and what it answered and left.
-fn in_table<R: Print>(
+// What a whole QP call answered and left.
+fn with_segments<R: Print>(
     replay: &mut Replay<'_, R>,
     file: &[u8],
-    table: &mut [u32],
+    answer: Result<qp::Totals, Refusal>,
+    table: &[u32],
 ) -> io::Result<()> {
-    let said = qp_said(qp::demux_ds2_qp(file, table));
+    let said = qp_said(answer);
     let segments = said[2] as usize;
     let all = test_fetched::of_segments(file, table, segments);
     replay.expect_all(&said)?;
@@ -74,22 +85,30 @@ fn in_table<R: Print>(
     replay.expect(all.digest)
 }
 
-// The same with so many words lent.
+fn in_table<R: Print>(
+    replay: &mut Replay<'_, R>,
+    file: &[u8],
+    table: &mut [u32],
+) -> io::Result<()> {
+    let answer = qp::demux_ds2_qp(file, table);
+    with_segments(replay, file, answer, table)
+}
+
+// The whole QP call, with so many words lent.
 pub fn whole_qp<R: Print>(replay: &mut Replay<'_, R>, file: &[u8], lent: usize) -> io::Result<()> {
     let mut table = [165u32; 16384];
     in_table(replay, file, &mut table[..lent.min(16384)])
 }
 
-// The whole QP7 call, and what it answered and left.
-fn in_tables<R: Print>(
+// What a whole QP7 call answered and left.
+fn with_records<R: Print>(
     replay: &mut Replay<'_, R>,
     file: &[u8],
-    records: &mut [u32],
-    segments: &mut [u32],
+    answer: Result<qp7::Totals, Refusal>,
+    records: &[u32],
+    segments: &[u32],
 ) -> io::Result<()> {
-    let [number, beside, of_records, of_segments, size, absent] = qp7_said(qp7::demux_ds2_qp7(
-        file, records, segments,
-    ));
+    let [number, beside, of_records, of_segments, size, absent] = qp7_said(answer);
     let many = of_segments as usize;
     let all = test_fetched::of_records(file, records, segments, many);
     replay.expect_all(&[number, beside, of_records, of_segments])?;
@@ -98,7 +117,17 @@ fn in_tables<R: Print>(
     replay.expect_all(&[all.digest, size, absent])
 }
 
-// The same with so many words lent for records and for segments.
+fn in_tables<R: Print>(
+    replay: &mut Replay<'_, R>,
+    file: &[u8],
+    records: &mut [u32],
+    segments: &mut [u32],
+) -> io::Result<()> {
+    let answer = qp7::demux_ds2_qp7(file, records, segments);
+    with_records(replay, file, answer, records, segments)
+}
+
+// The whole QP7 call, with so many words lent for records and for segments.
 pub fn whole_qp7<R: Print>(
     replay: &mut Replay<'_, R>,
     file: &[u8],

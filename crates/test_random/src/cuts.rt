@@ -16,6 +16,23 @@ pub struct File<'a> {
     pub whole: Reading,
 }
 
+// The cut of a number, if it is tried.
+fn try_one(
+    rt: &impl Print,
+    before: Tried,
+    way: Way,
+    file: File,
+    k: usize,
+    out: &mut [u8],
+    counts: &mut [u8],
+) -> io::Result<Tried> {
+    let cuts = cuts_by(way, file.made, file.number, k);
+    if !is_tried(way, cuts) {
+        return Ok(before);
+    }
+    try_cut(rt, before, file, cuts, out, counts)
+}
+
 // So many cuts of a file, by numbers.
 fn try_cuts(
     rt: &impl Print,
@@ -28,10 +45,7 @@ fn try_cuts(
 ) -> io::Result<Tried> {
     let mut tried = before;
     for k in 0..times {
-        let cuts = cuts_by(way, file.made, file.number, k);
-        if is_tried(way, cuts) {
-            tried = try_cut(rt, tried, file, cuts, out, counts)?;
-        }
+        tried = try_one(rt, tried, way, file, k, out, counts)?;
     }
     Ok(tried)
 }

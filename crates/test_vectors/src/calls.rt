@@ -80,6 +80,12 @@ fn with_rest<R: Print>(
     with_choice(replay, pieces)
 }
 
+// The whole calls of QP and QP7.
+fn with_tables<R: Print>(replay: &mut Replay<'_, R>, asked: Asked, file: &[u8]) -> io::Result<()> {
+    test_asked::whole_qp(replay, file, asked.table)?;
+    test_asked::whole_qp7(replay, file, asked.records, asked.segments)
+}
+
 // All answers but those of detection, with so much lent.
 fn in_room<R: Print>(
     replay: &mut Replay<'_, R>,
@@ -89,8 +95,7 @@ fn in_room<R: Print>(
     counts: &mut [u8],
 ) -> io::Result<()> {
     test_asked::both_sp(replay, file, out, counts)?;
-    test_asked::whole_qp(replay, file, asked.table)?;
-    test_asked::whole_qp7(replay, file, asked.records, asked.segments)?;
+    with_tables(replay, asked, file)?;
     let pieces = in_pieces(asked.kind, file, asked.cuts, asked.choice, out, counts);
     with_rest(replay, asked, file, pieces)
 }

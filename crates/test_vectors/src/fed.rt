@@ -94,12 +94,17 @@ pub fn with_more<R: Print>(replay: &mut Replay<'_, R>, pieces: Pieces) -> io::Re
     with_rest(replay, pieces.ended)
 }
 
+// An end by a choice that is neither, after the lenient end.
+fn with_late_choice<R: Print>(replay: &mut Replay<'_, R>, lenient: LenientEnd) -> io::Result<()> {
+    replay.expect_all(&lenient.neither.answer())
+}
+
 // What the strict end left untouched, and the ends by a choice that is neither, before the others and after the lenient one.
 pub fn with_choice<R: Print>(replay: &mut Replay<'_, R>, pieces: Pieces) -> io::Result<()> {
     let ended = pieces.ended;
     replay.expect(ended.strict.past)?;
     replay.expect_all(&ended.neither.answer())?;
-    replay.expect_all(&ended.lenient.neither.answer())
+    with_late_choice(replay, ended.lenient)
 }
 
 // A DSS reader at the limit and a byte past it: 268,435,456 bytes are taken, and one more is refused by 2.
