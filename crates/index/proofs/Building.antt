@@ -9,10 +9,8 @@ use borrow.Author.Tests.{le-leb, lt-leb}
 use lib.ListN.{length, set}
 use lib.Dec.{leb}
 use Rattle.tables.proofs.Lent.{leaves_one, leaves_as, leaves_over}
-use Rattle.refusals.specs.declared.Numbers.{Numbers}
 use Rattle.refusals.specs.Numbers.{numbered}
-use Rattle.refusals.specs.Said.{answers, refusal, result_says}
-use Rattle.refusals.proofs.Said.{read_from}
+use Rattle.refusals.specs.Said.{answers, refusal}
 use Rattle.whole.specs.declared.Recording.{Recording}
 use Rattle.whole.specs.Admissions.{admission}
 use Rattle.entries.specs.Words.{word32}

@@ -1,7 +1,7 @@
 -- The ways of reading: which bytes are accepted, and what each test refuses by.
 -- Assumes nothing.
 use Prim.Native.Nat.{ℕ, ◌+◌, ◌*◌, ◌≤◌, ◌<◌}
-use mathlib.Core.Path.{◌≡◌, refl, sym, ap, ◌∙◌}
+use mathlib.Core.Path.{◌≡◌, sym, ap, ◌∙◌}
 use mathlib.Core.List.{List}
 use mathlib.Core.Bool.{true, false}
 use native.Mathlib.Omega.{arith}
@@ -10,8 +10,8 @@ use lib.ListN.{length, get_or, drop, length-drop}
 use lib.Dec.{eqb}
 use Rattle.refusals.specs.declared.Numbers.{Numbers}
 use Rattle.refusals.specs.Numbers.{numbered}
-use Rattle.refusals.specs.Said.{Said, answers, refusal, demand, result_says}
-use Rattle.refusals.proofs.Said.{passed, onward_refused, onward_answered, went_on, read_from}
+use Rattle.refusals.specs.Said.{Said, answers, refusal, demand}
+use Rattle.refusals.proofs.Said.{passed, onward_refused, onward_answered, went_on}
 use Rattle.whole.specs.declared.Recording.{Recording}
 use Rattle.whole.specs.Admissions.{admission}
 use Rattle.entries.specs.declared.Totals.{Totals}
@@ -23,8 +23,6 @@ use Rattle.entries.proofs.Held.{same_is, same_if, same_not, wrong_not, all_right
 use Rattle.index.specs.Reading.{framed, held_to, read_to, read_beside, index_read}
 use Rattle.index.specs.Outcome.{totals_of, totalled}
 use Rattle.index.proofs.Framed.{framed_says}
-use Rattle.std.specs.Prelude.{Result, Ok, Err}
-use Rattle.refusals.specs.declared.Refusal.{Refusal}
 
 -- totals by their two numbers
 pub by_totals : (totals : Totals) (c : Contents) → totals.entries ≡ length c.entries → totals.packets ≡ c.total → totals ≡ totals_of c

@@ -47,7 +47,7 @@ use Rattle.index.proofs.build_index.Kinds as builds
 use Rattle.index.proofs.build_index.Reads as builds-reads
 use Rattle.index.proofs.read_index.Kinds as reads
 use Rattle.index.proofs.read_index.Reads as reads-reads
-use Rattle.std.specs.Prelude.{Result, Ok, Err}
+use Rattle.std.specs.Prelude.{Result}
 use Rattle.refusals.specs.declared.Refusal.{Refusal}
 use Rattle.refusals.proofs.Results.{only_result}
 

@@ -1,6 +1,6 @@
 -- What building and reading an index answer, and what building leaves in the lent output. A refused call leaves it as it was.
 -- Assumes nothing.
-use Rattle.std.specs.Prelude.{ℕ, ◌≡◌, List, length, leb, Result, Ok, Err}
+use Rattle.std.specs.Prelude.{ℕ, ◌≡◌, List, length, leb, Result}
 use Rattle.tables.specs.Entries.{fronted}
 use Rattle.refusals.specs.Said.{Said, answers, refusal, demand, onward, result_says}
 use Rattle.entries.specs.declared.Totals.{Totals}

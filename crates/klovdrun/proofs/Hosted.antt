@@ -13,7 +13,7 @@ use Rattle.reader.proofs.Laws.{at_state}
 use Rattle.numbers.specs.declared.Answer.{Answer}
 use Rattle.klovdrun.specs.Wrapped.{step_to, Advances, Tells}
 use Rattle.klovdrun.proofs.Theorems.{piece_tells, end_tells}
-use Rattle.std.specs.Prelude.{Result, Ok, Err}
+use Rattle.std.specs.Prelude.{Result}
 use Rattle.refusals.specs.declared.Refusal.{Refusal}
 
 -- a call whose numbers tell what it said: what its answer says, by them

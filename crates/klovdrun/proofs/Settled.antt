@@ -64,7 +64,7 @@ use Rattle.klovdrun.proofs.klov_dss_packet.Kinds as indexed
 use Rattle.klovdrun.proofs.klov_dss_packet.Reads as indexed-reads
 use Rattle.klovdrun.proofs.klov_open.Kinds as opening
 use Rattle.klovdrun.proofs.klov_open.Reads as opening-reads
-use Rattle.std.specs.Prelude.{Result, Ok, Err}
+use Rattle.std.specs.Prelude.{Result}
 use Rattle.refusals.specs.declared.Refusal.{Refusal}
 
 -- the exports that are lent nothing to write

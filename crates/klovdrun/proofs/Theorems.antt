@@ -48,7 +48,7 @@ use Rattle.numbers.specs.Numbers.{numbers_or, one_number, qp_numbers, qp7_number
 use Rattle.klovdrun.specs.Wrapped.{SpCarries, QpCarries, Qp7Carries, FillCarries, WriteCarries, BuildCarries, step_to, OpenCarries, Advances, Tells, of_entry, of_tally}
 use Rattle.klovdrun.specs.Refusals.{payload_refusals, dss_refusals, ds2_refusals, packet_refusals, qp_refusals, qp7_refusals, fetch_refusals, open_refusals, piece_refusals, refusals_by, write_refusals, build_refusals, read_refusals, find_refusals, indexed_refusals}
 use Rattle.klovdrun.proofs.Refusing.{payload_numbered, dss_numbered, ds2_numbered, packet_numbered, packets_numbered, segments_numbered, records_numbered, fetch_numbered, open_numbered, piece_numbered, none_by_0, end_numbered, write_numbered, build_numbered, read_numbered, find_numbered, indexed_numbered}
-use Rattle.std.specs.Prelude.{Result, Ok, Err}
+use Rattle.std.specs.Prelude.{Result}
 use Rattle.refusals.specs.declared.Refusal.{Refusal}
 
 tells : {A : Type 0} {numbers : List ℕ} (first second : A → ℕ) (other : ℕ) (said : Said A) → is_among numbers 0 ≡ false → Numbered numbers said

@@ -1,6 +1,6 @@
 -- What an export promises that wraps a call and lends it memory: the wrapped call's own outcome, of which the export hands over the
 -- numbers; and when numbers tell what was said. Assumes nothing.
-use Rattle.std.specs.Prelude.{ℕ, ◌<◌, ◌≡◌, List, true, Result, Ok, Err}
+use Rattle.std.specs.Prelude.{ℕ, ◌<◌, ◌≡◌, List, true, Result}
 use Rattle.refusals.specs.declared.Numbers.{Numbers}
 use Rattle.refusals.specs.Numbers.{lacking, OnlyRecordsLack}
 use Rattle.refusals.specs.Said.{Said, answers, refusal, is_among, result_says}

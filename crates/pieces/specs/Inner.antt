@@ -5,7 +5,7 @@ use Rattle.blocks.specs.Places.{limit, whole_blocks, block_at}
 use Rattle.blocks.specs.Headers.{Bytes, header_byte, announced_in}
 use Rattle.refusals.specs.declared.Refusal.{Refusal}
 use Rattle.refusals.specs.Numbers.{in_numbers, numbered}
-use Rattle.refusals.specs.Said.{Said, answers, refusal, demand}
+use Rattle.refusals.specs.Said.{Said, answers, demand}
 use Rattle.hold.specs.declared.Standing.{Standing}
 use Rattle.hold.specs.Ready.{reading_in, ready}
 use Rattle.hold.specs.Held.{block_fits, fits, waiting_at, hold_at}

@@ -28,7 +28,7 @@ use Rattle.hold.specs.Ready.{reading_in}
 use Rattle.reader.specs.State.{is_dss, start_of, reading_by}
 use Rattle.reader.specs.Agreement.{whole_reading, Agrees}
 use Rattle.reader.proofs.Parts.{Part, part_whole}
-use Rattle.std.specs.Prelude.{Result, Ok, Err}
+use Rattle.std.specs.Prelude.{Result}
 use Rattle.refusals.specs.declared.Refusal.{Refusal}
 
 -- a file of a magic that is taken, within the limit and with a full header

@@ -9,11 +9,10 @@ use borrow.Author.Tests.{leb-true, eqb-true, eqb-false}
 use lib.ListN.{length}
 use lib.Dec.{eqb}
 use Rattle.tables.proofs.Cases.{by_order, by_test, either_most}
-use Rattle.tables.proofs.Lent.{leaves_none, leaves_over}
+use Rattle.tables.proofs.Lent.{leaves_over}
 use Rattle.blocks.specs.Places.{Whole, whole_blocks}
-use Rattle.refusals.specs.Said.{refusal, Said, answers, result_says}
-use Rattle.refusals.proofs.Said.{by_said}
-use Rattle.sp.specs.Readings.{Reading, carry_at}
+use Rattle.refusals.specs.Said.{refusal, answers, result_says}
+use Rattle.sp.specs.Readings.{carry_at}
 use Rattle.sp.specs.Outcome.{room_in}
 use Rattle.hold.specs.Ready.{reading_in, ready}
 use Rattle.hold.specs.Held.{base_at, fits}
@@ -22,11 +21,11 @@ use Rattle.hold.proofs.Front.{fits_each}
 use Rattle.hold.proofs.Longer.{base_grows_in}
 use Rattle.reader.specs.declared.Reader.{Reader}
 use Rattle.reader.specs.State.{State, is_dss, start_of, blocks_in, reading_by, handed, owed, reader_of, header_done, Sound, Reached}
-use Rattle.reader.specs.Calls.{end_by, end_said, after_end, handed_by, Ends}
+use Rattle.reader.specs.Calls.{end_by, end_said, after_end, Ends}
 use Rattle.reader.specs.Inner.{standing_of}
 use Rattle.reader.proofs.Ends.{owed_is}
 use Rattle.reader.proofs.Within.{end_within}
-use Rattle.std.specs.Prelude.{Result, Ok, Err}
+use Rattle.std.specs.Prelude.{Result}
 use Rattle.refusals.specs.declared.Refusal.{Refusal}
 use Rattle.refusals.specs.declared.Numbers.{Numbers}
 

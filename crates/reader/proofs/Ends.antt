@@ -5,15 +5,14 @@ use mathlib.Core.Path.{◌≡◌, sym, ◌∙◌, subst}
 use mathlib.Core.Bool.{true, false, not, cond}
 use native.Mathlib.Omega.{arith}
 use borrow.Author.Tests.{eq-eqb, ne_eqb, eqb-true}
-use lib.ListN.{length}
 use lib.Dec.{eqb}
 use Rattle.tables.proofs.Cases.{by_test, by_equal}
 use Rattle.blocks.specs.Places.{limit}
 use Rattle.refusals.specs.Said.{Said, answers, refuses, demand}
 use Rattle.refusals.proofs.Said.{not_both, passed}
 use Rattle.reader.specs.declared.Reader.{Reader}
-use Rattle.reader.specs.State.{State, is_kind, start_of, owed, reader_of, header_full, header_done, Sound, Reached}
-use Rattle.reader.specs.Calls.{in_block, strict_by, lenient_by, strict, lenient, end_by, end_said}
+use Rattle.reader.specs.State.{State, is_kind, owed, reader_of, header_full, Reached}
+use Rattle.reader.specs.Calls.{in_block, strict_by, lenient_by, strict, lenient, end_by}
 
 -- no more packets are handed out than are announced
 pub reached_among : {r : Reader} → Reached r → r.ready + r.drained ≤ r.announced

@@ -26,7 +26,7 @@ use Rattle.reader.proofs.Folding.{holding, Came, opened_fed, drew_owed, drained_
 use Rattle.reader.proofs.Agreeing.{agrees_is, whole_hands}
 use Rattle.reader.proofs.Fitting.{fits_same}
 use Rattle.reader.proofs.Blockwise.{block_exactly}
-use Rattle.std.specs.Prelude.{Result, Ok, Err}
+use Rattle.std.specs.Prelude.{Result}
 use Rattle.refusals.specs.declared.Refusal.{Refusal}
 
 -- A reader that takes pieces refuses one with which it is within the limit by 7 exactly when some block of the bytes joined does not fit.

@@ -24,7 +24,7 @@ use Rattle.reader.specs.State.{State, start_of, blocks_in, fits_by, owed, reader
 use Rattle.reader.specs.Calls.{brings, piece_said, in_block, strict_by, lenient_by, strict, lenient, end_said, Steps, Hands}
 use Rattle.reader.specs.History.{EndCall}
 use Rattle.reader.proofs.Parts.{Part, part_over}
-use Rattle.std.specs.Prelude.{Result, Ok, Err}
+use Rattle.std.specs.Prelude.{Result}
 use Rattle.refusals.specs.declared.Refusal.{Refusal}
 use Rattle.refusals.proofs.Results.{only_result}
 

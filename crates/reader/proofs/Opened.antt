@@ -15,7 +15,6 @@ use Rattle.blocks.specs.Places.{block_at}
 use Rattle.blocks.specs.Headers.{announced_in}
 use Rattle.blocks.proofs.Headers.{announced_none}
 use Rattle.blocks.proofs.Places.{stream_past}
-use Rattle.refusals.specs.Said.{answers, demand, result_says}
 use Rattle.sp.proofs.Runs.{carry_at_first}
 use Rattle.hold.specs.declared.Standing.{Standing}
 use Rattle.hold.specs.Ready.{reading_in, front, ready}
@@ -28,10 +27,9 @@ use Rattle.reader.specs.declared.Reader.{Reader}
 use Rattle.pieces.specs.Joined.{bytes_from}
 use Rattle.reader.specs.State.{State, is_kind, is_dss, start_of, blocks_in, ready_by, handed, reader_of, Sound}
 use Rattle.reader.specs.Calls.{open_said, after_open, Opens}
-use Rattle.reader.specs.Inner.{standing_of, fresh}
+use Rattle.reader.specs.Inner.{fresh}
 use Rattle.refusals.specs.declared.Refusal.TheVariants.{Kind}
-use Rattle.std.specs.Prelude.{Result, Ok, Err}
-use Rattle.refusals.specs.declared.Refusal.{Refusal}
+use Rattle.std.specs.Prelude.{Ok, Err}
 
 -- the kinds that there are
 pub by_kind {ℓ} : {X : Type ℓ} (kind : ℕ) → is_kind kind ≡ true → (kind ≡ 0 → X) → (kind ≡ 2 → X) → (kind ≡ 3 → X) → X

@@ -3,12 +3,12 @@
 use Prim.Native.Nat.{ℕ, ◌+◌, ◌≤◌}
 use mathlib.Core.Path.{◌≡◌, refl, sym, ap, ◌∙◌, subst₂}
 use mathlib.Core.List.{List, ◌++◌}
-use mathlib.Core.Bool.{Bool, true, false, cond}
+use mathlib.Core.Bool.{Bool, true}
 use native.Mathlib.Omega.{arith}
 use lib.ListN.{length, length-append, get_or-append}
 use lib.Seq.{get_or-append-add}
 use lib.Dec.{eqb, leb}
-use Rattle.tables.proofs.Cases.{by_order, never}
+use Rattle.tables.proofs.Cases.{by_order}
 use Rattle.tables.proofs.Table.{table_at}
 use Rattle.tables.proofs.Lent.{leaves_over}
 use Rattle.blocks.specs.Places.{limit, Whole, whole_blocks, block_at}
@@ -16,7 +16,6 @@ use Rattle.blocks.specs.Headers.{Bytes}
 use Rattle.blocks.proofs.Headers.{announced_kept}
 use Rattle.refusals.specs.declared.Numbers.{Numbers}
 use Rattle.refusals.specs.Said.{Said, answers, refusal, demand, result_says}
-use Rattle.refusals.proofs.Said.{by_said}
 use Rattle.sp.specs.Outcome.{room_in}
 use Rattle.hold.specs.declared.Standing.{Standing}
 use Rattle.hold.specs.Ready.{ready}
@@ -25,7 +24,6 @@ use Rattle.hold.specs.Inner.{PartWritten, numbers_at, Stands}
 use Rattle.hold.proofs.Ready.{ready_within}
 use Rattle.hold.proofs.Longer.{ready_kept, base_kept, hold_kept, waiting_kept, first_kept, fits_kept, carry_same}
 use Rattle.reader.specs.declared.Reader.{Reader}
-use Rattle.reader.specs.declared.Step.{Step}
 use Rattle.pieces.specs.Joined.{bytes_from}
 use Rattle.reader.specs.State.{State, is_dss, start_of, blocks_in, reading_by, ready_by, handed, reader_of, Sound}
 use Rattle.reader.specs.Calls.{brings, piece_said, after_piece, Steps, Hands, Takes}
@@ -33,7 +31,7 @@ use Rattle.pieces.specs.Inner.{Joins, Known, gained, judged, Able, Absorbed}
 use Rattle.reader.specs.Inner.{standing_of}
 use Rattle.reader.proofs.Opened.{none_stands, none_fits, reader_with, stands_for}
 use Rattle.reader.proofs.Laws.{steps_by, hands_by, piece_accepted, bytes_joined}
-use Rattle.std.specs.Prelude.{Result, Ok, Err}
+use Rattle.std.specs.Prelude.{Result}
 use Rattle.refusals.specs.declared.Refusal.{Refusal}
 
 -- an input that goes on: what stood after its blocks stands, they fit as they did, and what was kept of the next one joins the rest

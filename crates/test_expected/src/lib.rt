@@ -2,7 +2,7 @@
 // and on the standard library for the lines that it writes.
 #![tactic(auto)]
 
-ghost use Rattle.std.specs.Prelude.{◌≤◌, length};
+ghost use Rattle.std.specs.Prelude.{◌≤◌, ◌<◌, ◌^◌, length};
 
 use std::io;
 use test_tools::say;
@@ -116,4 +116,33 @@ impl<'a, R: Print> Replay<'a, R> {
         say(self.rt, b", wrong ", self.wrong as u64)?;
         self.rt.write_all(b"\n")
     }
+}
+
+// One case of a list, by the program that the list is for.
+pub trait Case {
+    fn hold<R: Print>(replay: &mut Replay<'_, R>) -> io::Result<()>;
+}
+
+// Runs through a list. A case has some numbers, so there are no more cases than bytes.
+fn run<C: Case>(rt: &impl Print, list: &[u8]) -> io::Result<()> {
+    let mut replay = Replay::begin(rt, list);
+    for _ in 0..list.len() {
+        if !replay.numbers.goes_on() {
+            break;
+        }
+        C::hold(&mut replay)?;
+    }
+    replay.conclude()
+}
+
+// Runs through the list on standard input. ROOM is more bytes than it has.
+pub fn replay_list<C: Case, const ROOM: usize>(rt: &(impl Input + Print)) -> io::Result<()>
+    requires { ROOM < 2 ^ 63 }
+{
+    let mut space = [0u8; ROOM];
+    let n = test_tools::read_full(rt, &mut space)?;
+    if n == ROOM {
+        return println!(rt; "the list is too long");
+    }
+    run::<C>(rt, &space[..n])
 }

@@ -5,8 +5,8 @@ use entries::{Entry, Totals};
 use index::Size;
 use refusals::{Numbers, Refusal};
 use std::io;
-use test_expected::Replay;
 use test_expected::making::next_case;
+use test_expected::{Case, Replay};
 use test_tools::digest_all;
 
 // What is asked of a file: which packet, and how many bytes of the output, how many counts, and how many bytes for an index are lent.
@@ -131,15 +131,20 @@ fn with_index<R: Print>(replay: &mut Replay<'_, R>, asked: Asked, file: &[u8]) -
     answers(replay, asked, file, index)
 }
 
-// The next case of the list, with its file.
-pub fn one_case<R: Print>(replay: &mut Replay<'_, R>) -> io::Result<()> {
-    let mut space = [0u8; 135168];
-    let file = next_case(replay, &mut space);
-    let asked = Asked {
-        which: replay.numbers.next_size(),
-        out: replay.numbers.next_size(),
-        counts: replay.numbers.next_size(),
-        for_index: replay.numbers.next_size(),
-    };
-    with_index(replay, asked, file)
+// The list that this program replays.
+pub struct Indexes;
+
+impl Case for Indexes {
+    // The next case of the list, with its file.
+    fn hold<R: Print>(replay: &mut Replay<'_, R>) -> io::Result<()> {
+        let mut space = [0u8; 135168];
+        let file = next_case(replay, &mut space);
+        let asked = Asked {
+            which: replay.numbers.next_size(),
+            out: replay.numbers.next_size(),
+            counts: replay.numbers.next_size(),
+            for_index: replay.numbers.next_size(),
+        };
+        with_index(replay, asked, file)
+    }
 }

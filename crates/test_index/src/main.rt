@@ -5,7 +5,6 @@
 #![tactic(auto)]
 
 use std::io;
-use test_expected::Replay;
 
 // One case.
 mod calls;
@@ -13,28 +12,6 @@ mod calls;
 // The index that it lends.
 mod making;
 
-// Runs through the list. A case has some numbers, so there are no more cases than bytes.
-fn run(rt: &impl Print, list: &[u8]) -> io::Result<()> {
-    let mut replay = Replay::begin(rt, list);
-    for _ in 0..list.len() {
-        if !replay.numbers.goes_on() {
-            break;
-        }
-        calls::one_case(&mut replay)?;
-    }
-    replay.conclude()
-}
-
-// Room for the list, and more.
-fn room() -> [u8; 1048576] {
-    [0u8; 1048576]
-}
-
 fn main(rt: HostRuntime) -> io::Result<()> {
-    let mut space = room();
-    let n = test_tools::read_full(&rt, &mut space)?;
-    if n == 1048576 {
-        return println!(rt; "the list is too long");
-    }
-    run(&rt, &space[..n])
+    test_expected::replay_list::<calls::Indexes, 1048576>(&rt)
 }

@@ -1,8 +1,8 @@
 // One case: its file is made, a packet of it is asked for by its number, and what the call answers and leaves is held to the list. Rests on
 // at_once, and on test_expected and test_sums.
 use std::io;
-use test_expected::Replay;
 use test_expected::making::next_case;
+use test_expected::{Case, Replay};
 
 // What is asked of a file: which packet, and how many bytes of the output and how many counts are lent.
 #[derive(Clone, Copy)]
@@ -37,14 +37,19 @@ fn in_room<R: Print>(replay: &mut Replay<'_, R>, asked: Asked, file: &[u8]) -> i
     )
 }
 
-// The next case of the list, with its file.
-pub fn one_case<R: Print>(replay: &mut Replay<'_, R>) -> io::Result<()> {
-    let mut space = [0u8; 67584];
-    let file = next_case(replay, &mut space);
-    let asked = Asked {
-        which: replay.numbers.next_size(),
-        out: replay.numbers.next_size(),
-        counts: replay.numbers.next_size(),
-    };
-    in_room(replay, asked, file)
+// The list that this program replays.
+pub struct Packets;
+
+impl Case for Packets {
+    // The next case of the list, with its file.
+    fn hold<R: Print>(replay: &mut Replay<'_, R>) -> io::Result<()> {
+        let mut space = [0u8; 67584];
+        let file = next_case(replay, &mut space);
+        let asked = Asked {
+            which: replay.numbers.next_size(),
+            out: replay.numbers.next_size(),
+            counts: replay.numbers.next_size(),
+        };
+        in_room(replay, asked, file)
+    }
 }

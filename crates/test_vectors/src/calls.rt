@@ -5,7 +5,7 @@ use blocks::StreamPlace;
 use std::io;
 use test_asked::Request;
 use test_expected::making::next_case;
-use test_expected::{Numbers, Replay};
+use test_expected::{Case, Numbers, Replay};
 use test_tools::{Cuts, digest_all};
 
 // What is asked of a file.
@@ -119,10 +119,15 @@ fn answers<R: Print>(replay: &mut Replay<'_, R>, asked: Asked, file: &[u8]) -> i
     )
 }
 
-// The next case of the list, with its file.
-pub fn one_case<R: Print>(replay: &mut Replay<'_, R>) -> io::Result<()> {
-    let mut space = [0u8; 67584];
-    let file = next_case(replay, &mut space);
-    let asked = read_asked(&mut replay.numbers);
-    answers(replay, asked, file)
+// The list that this program replays.
+pub struct Vectors;
+
+impl Case for Vectors {
+    // The next case of the list, with its file.
+    fn hold<R: Print>(replay: &mut Replay<'_, R>) -> io::Result<()> {
+        let mut space = [0u8; 67584];
+        let file = next_case(replay, &mut space);
+        let asked = read_asked(&mut replay.numbers);
+        answers(replay, asked, file)
+    }
 }

@@ -20,7 +20,7 @@ use Rattle.writing.specs.Writable.{AllSound, FirstUnsound, file_size, Writable, 
 use Rattle.writing.specs.Writable.Unwritable.{no_header, bad_packet, too_long, no_room}
 use Rattle.writing.proofs.Outcome.{sound_upto, sound_each, sound_most, sound_not}
 use Rattle.writing.proofs.Theorems.{accepted}
-use Rattle.std.specs.Prelude.{Result, Ok, Err}
+use Rattle.std.specs.Prelude.{Result}
 use Rattle.refusals.specs.declared.Refusal.{Refusal}
 
 -- all packets are sound exactly if those that a list begins with are all of it, and the first that is not follows them

@@ -12,7 +12,6 @@ use Rattle.tables.proofs.Lent.{leaves_to, leaves_over}
 use Rattle.tables.proofs.Cases.{by_equal, never}
 use Rattle.tables.proofs.Leading.{Leads, leading_leads, leads_only}
 use Rattle.blocks.specs.Places.{limit}
-use Rattle.refusals.specs.Numbers.{numbered}
 use Rattle.refusals.specs.Said.{Said, answers, refuses, result_says}
 use Rattle.packets.specs.Walk.{reach}
 use Rattle.laying.specs.Header.{is_header}

@@ -41,7 +41,7 @@ use Rattle.writing.proofs.Described.{laid_described}
 use Rattle.writing.proofs.ReadBack.{reading_back, total_back, byte_back, swap_back, full_back, type_is, is_read_back}
 use Rattle.writing.proofs.write_ds2_sp.Kinds as writes
 use Rattle.writing.proofs.write_ds2_sp.Reads as writes_reads
-use Rattle.std.specs.Prelude.{Result, Ok, Err}
+use Rattle.std.specs.Prelude.{Result}
 use Rattle.refusals.specs.declared.Refusal.{Refusal}
 use Rattle.refusals.proofs.Results.{only_result}
 

@@ -1,7 +1,7 @@
 -- What the writer of DS2 SP files answers and leaves in the lent output: refusals 15, 16, 17 and 8 with the numbers beside them, or how long
 -- the file is. A refused call leaves the output as it was; an answered one writes the file over its front, and no other byte.
 -- Assumes nothing.
-use Rattle.std.specs.Prelude.{ℕ, ◌*◌, ◌≡◌, List, length, leb, eqb, Result, Ok, Err}
+use Rattle.std.specs.Prelude.{ℕ, ◌*◌, ◌≡◌, List, length, leb, eqb, Result}
 use Rattle.tables.specs.Lent.{over}
 use Rattle.tables.specs.Leading.{leading}
 use Rattle.blocks.specs.Places.{limit}

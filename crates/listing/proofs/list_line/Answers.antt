@@ -1,8 +1,6 @@
 -- `listing::list_line` meets its contract: too long a file is refused, and any other has the line of what its tally says.
 -- Assumes nothing.
-use Rattle.std.proofs.Common.{sym, ap, ◌∙◌}
-use Rattle.refusals.specs.declared.Numbers.{Numbers}
-use Rattle.refusals.specs.Said.{refusal, result_says}
+use Rattle.std.proofs.Common.{sym, ◌∙◌}
 use Rattle.listing.proofs.Text.{too_long, short_enough, listed_as}
 use Rattle.io.specs.Counts.{IsPrefixLen}
 use Rattle.listing.specs.Line.{list_line, Lists}

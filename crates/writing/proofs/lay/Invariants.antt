@@ -1,6 +1,6 @@
 -- `writing::lay` meets its contract: the output holds the file of the packets so far.
 -- Assumes nothing.
-use Prim.Native.Nat.{◌-◌, ◌≤◌}
+use Prim.Native.Nat.{◌≤◌}
 use Rattle.laying.specs.Inner.{Holds}
 use Rattle.writing.specs.Laying.{part_laid, byte_in}
 use Rattle.writing.proofs.lay.Given as goal

@@ -1,6 +1,6 @@
 -- `writing::sound_in` meets its contract: every packet so far is sound.
 -- Assumes nothing.
-use Prim.Native.Nat.{ℕ, ◌-◌, ◌≤◌, ◌<◌}
+use Prim.Native.Nat.{ℕ, ◌≤◌, ◌<◌}
 use mathlib.Core.Path.{◌≡◌}
 use Rattle.writing.specs.Laying.{many_in, byte_in}
 use Rattle.writing.proofs.sound_in.Given as goal

@@ -1,6 +1,5 @@
 -- `pieces::absorb::absorb` meets its contract: the blocks before b have been added, and what they brought stands in front.
 -- Assumes nothing.
-use Prim.Native.Nat.{◌-◌}
 use Rattle.pieces.proofs.Absorbing.{Turns}
 use Rattle.pieces.proofs.absorb.absorb.Given as goal
 

@@ -2,7 +2,6 @@
 -- and nothing else of the reader changes. Assumes nothing.
 use mathlib.Core.Path.{◌≡◌, refl, ap, ◌∙◌}
 use native.Mathlib.Omega.{arith}
-use borrow.Author.Tests.{eq-eqb, ne_eqb}
 use Rattle.blocks.specs.Places.{whole_blocks}
 use Rattle.std.specs.Prelude.{Ok}
 use Rattle.refusals.specs.Said.{result_says}

@@ -3,7 +3,7 @@
 use native.Mathlib.Omega.{arith}
 use Rattle.blocks.specs.Headers.{Bytes}
 use Rattle.refusals.proofs.Results.{ok_says, err_says}
-use Rattle.reader.proofs.Piecing.{Decided, knows, enables, few_taken, keeps, takes}
+use Rattle.reader.proofs.Piecing.{Decided, knows, enables, keeps, takes}
 use Rattle.reader.proofs.Reader.push.Goals as goal
 use Rattle.reader.proofs.Reader.push.Goals.{After-decide-answer}
 
