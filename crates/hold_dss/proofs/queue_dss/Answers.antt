@@ -1,7 +1,6 @@
 -- `hold_dss::queue_dss` meets its contract: the block waits behind those that wait, those that can leave are handed out and dropped.
 -- Assumes nothing.
 use Prim.Native.Nat.{◌+◌, ◌*◌}
-use mathlib.Core.Path.{◌≡◌, ◌∙◌}
 use mathlib.Core.Bool.{true}
 use native.Mathlib.Omega.{arith}
 use lib.ListN.{length}
