@@ -11,9 +11,8 @@ use lib.Dec.{ltb}
 use Rattle.tables.proofs.Cases.{by_order}
 use Rattle.blocks.specs.Headers.{Bytes}
 use Rattle.refusals.specs.declared.Numbers.{Numbers}
-use Rattle.refusals.specs.Numbers.{numbered}
 use Rattle.refusals.specs.Said.{Said, answers, refusal, result_says}
-use Rattle.refusals.proofs.Said.{by_said, not_both, passed, onward_refused, onward_answered, went_on, read_from}
+use Rattle.refusals.proofs.Said.{by_said, not_both, passed, onward_refused, onward_answered, went_on}
 use Rattle.whole.specs.declared.Recording.{Recording}
 use Rattle.whole.specs.Admissions.{admission, Sound}
 use Rattle.whole.proofs.Admissions.{few_blocks}

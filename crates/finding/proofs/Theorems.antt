@@ -38,7 +38,7 @@ use Rattle.finding.proofs.find_entry.Kinds as finds
 use Rattle.finding.proofs.find_entry.Reads as finds-reads
 use Rattle.finding.proofs.dss_packet.Kinds as packet
 use Rattle.finding.proofs.dss_packet.Reads as packet-reads
-use Rattle.std.specs.Prelude.{Result, Ok, Err}
+use Rattle.std.specs.Prelude.{Result}
 use Rattle.refusals.specs.declared.Refusal.{Refusal}
 use Rattle.refusals.proofs.Results.{only_result}
 

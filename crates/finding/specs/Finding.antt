@@ -1,13 +1,12 @@
 -- The entry for a packet's number: of those that an index has, the last that begins at or before it. Refusal 18 after those of reading.
 -- Assumes nothing.
-use Rattle.std.specs.Prelude.{ℕ, List, [], ◌∷◌, true, false, cond, leb, ltb, Result, Ok, Err}
-use Rattle.refusals.specs.Said.{Said, answers, refusal, demand, onward, result_says}
+use Rattle.std.specs.Prelude.{ℕ, List, [], ◌∷◌, true, false, cond, leb, ltb}
+use Rattle.refusals.specs.Said.{Said, answers, demand, onward}
 use Rattle.whole.specs.declared.Recording.{Recording}
 use Rattle.whole.specs.Admissions.{admission}
 use Rattle.entries.specs.declared.Entry.{Entry}
 use Rattle.entries.specs.Entries.{entry_by, Contents}
 use Rattle.index.specs.Reading.{read_beside}
-use Rattle.refusals.specs.declared.Refusal.{Refusal}
 
 -- the last of these entries that begins at or before packet p, or the one given where none does
 unfoldable pub last_upto : ℕ → Entry → List Entry → Entry

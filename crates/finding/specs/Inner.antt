@@ -1,6 +1,6 @@
 -- What only contracts of inner functions speak of: where a search of an index comes to, and what is asked before a packet is handed out.
 -- Assumes nothing.
-use Rattle.std.specs.Prelude.{ℕ, ◌+◌, ◌-◌, ◌≤◌, ◌<◌, ◌^◌, ◌≡◌, List, length, Result, Ok, Err}
+use Rattle.std.specs.Prelude.{ℕ, ◌+◌, ◌-◌, ◌≤◌, ◌<◌, ◌^◌, ◌≡◌, List, length, Result}
 use Rattle.refusals.specs.Said.{answers, refuses, result_says}
 use Rattle.whole.specs.declared.Recording.{Recording}
 use Rattle.sp.specs.Inner.{Readable}

@@ -5,7 +5,7 @@
 ghost use Rattle.reader.specs.State.{Reached};
 
 use reader::{LENIENT, Reader, STRICT};
-use test_sums::{Sums, count_in, none};
+use test_sums::{Sums, count_in};
 
 // The lenient end: what it brings and the frames owed after it; what an empty piece gets then, an end by a choice that is neither, and a strict
 // end; and what the lenient end brings that is asked again, with the frames owed after that.
@@ -52,10 +52,8 @@ struct Tried {
 pub fn empty_piece(reader: Reader, out: &mut [u8], counts: &mut [u8]) -> Sums
     requires { Reached reader }
 {
-    let empty: [u8; 0] = [0u8; 0];
-    let step = reader.piece(&empty, out, counts);
-    let answer = step.answer;
-    count_in(none(), answer, 0, out, counts)
+    let step = reader.piece(&[], out, counts);
+    count_in(Sums::default(), step.answer, 0, out, counts)
 }
 
 // An end by a choice.
@@ -64,12 +62,9 @@ fn end_once(reader: Reader, choice: u64, out: &mut [u8], counts: &mut [u8]) -> A
     ensures { Reached result.reader }
 {
     let step = reader.end(choice, out, counts);
-    let answer = step.answer;
-    let after = step.reader;
-    let came = count_in(none(), answer, 0, out, counts);
     After {
-        came,
-        reader: after,
+        came: count_in(Sums::default(), step.answer, 0, out, counts),
+        reader: step.reader,
     }
 }
 
@@ -77,8 +72,7 @@ fn end_once(reader: Reader, choice: u64, out: &mut [u8], counts: &mut [u8]) -> A
 pub fn end_said(reader: Reader, choice: u64, out: &mut [u8], counts: &mut [u8]) -> Sums
     requires { Reached reader }
 {
-    let once = end_once(reader, choice, out, counts);
-    once.came
+    end_once(reader, choice, out, counts).came
 }
 
 // An end by a choice that is neither, and then the strict one.
@@ -87,58 +81,33 @@ fn neither_then_strict(reader: Reader, choice: u64, out: &mut [u8], counts: &mut
     ensures { Reached result.reader }
 {
     let refused = end_once(reader, choice, out, counts);
-    let neither = refused.came;
-    let kept = refused.reader;
-    let owed = kept.owed();
-    let ended = end_once(kept, STRICT, out, counts);
-    let strict = ended.came;
-    let after = ended.reader;
+    let owed = refused.reader.owed();
+    let ended = end_once(refused.reader, STRICT, out, counts);
     Tried {
-        neither,
+        neither: refused.came,
         owed,
-        strict,
-        reader: after,
+        strict: ended.came,
+        reader: ended.reader,
     }
 }
 
-// After a lenient end that brought this: an empty piece, an end by a choice that is neither, a strict one, and the lenient one again.
-fn after_lenient(
-    reader: Reader,
-    came: Sums,
-    choice: u64,
-    out: &mut [u8],
-    counts: &mut [u8],
-) -> LenientEnd
-    requires { Reached reader }
-{
-    let late = empty_piece(reader, out, counts);
-    let tried = neither_then_strict(reader, choice, out, counts);
-    let owed = tried.owed;
-    let neither = tried.neither;
-    let strict = tried.strict;
-    let twice = end_once(tried.reader, LENIENT, out, counts);
-    let again = twice.came;
-    let last = twice.reader;
-    let still = last.owed();
-    LenientEnd {
-        came,
-        owed,
-        late,
-        neither,
-        strict,
-        again,
-        still,
-    }
-}
-
-// The lenient end, and what follows on it.
+// The lenient end, and then an empty piece, an end by a choice that is neither, a strict one, and the lenient one again.
 fn lenient(reader: Reader, choice: u64, out: &mut [u8], counts: &mut [u8]) -> LenientEnd
     requires { Reached reader }
 {
     let once = end_once(reader, LENIENT, out, counts);
-    let came = once.came;
-    let after = once.reader;
-    after_lenient(after, came, choice, out, counts)
+    let late = empty_piece(once.reader, out, counts);
+    let tried = neither_then_strict(once.reader, choice, out, counts);
+    let twice = end_once(tried.reader, LENIENT, out, counts);
+    LenientEnd {
+        came: once.came,
+        owed: tried.owed,
+        late,
+        neither: tried.neither,
+        strict: tried.strict,
+        again: twice.came,
+        still: twice.reader.owed(),
+    }
 }
 
 // Ends a reader by a choice that is neither, then strictly and then leniently.
@@ -146,18 +115,12 @@ pub fn ends_of(reader: Reader, choice: u64, out: &mut [u8], counts: &mut [u8]) -
     requires { Reached reader }
 {
     let tried = neither_then_strict(reader, choice, out, counts);
-    let neither = tried.neither;
-    let owed = tried.owed;
-    let strict = tried.strict;
-    let after = tried.reader;
-    let patient = empty_piece(after, out, counts);
-    let lenient = lenient(after, choice, out, counts);
     Ended {
-        neither,
-        owed,
-        strict,
-        patient,
-        lenient,
+        neither: tried.neither,
+        owed: tried.owed,
+        strict: tried.strict,
+        patient: empty_piece(tried.reader, out, counts),
+        lenient: lenient(tried.reader, choice, out, counts),
     }
 }
 
@@ -167,14 +130,13 @@ fn drain(reader: Reader, before: Sums, out: &mut [u8], counts: &mut [u8]) -> Sum
 {
     let mut draining = reader;
     let mut sums = before;
-    let mut turns: usize = 0;
-    while turns < 10000 && 0 < draining.owed() {
+    for _ in 0..10000 {
+        if draining.owed() == 0 {
+            break;
+        }
         let step = draining.end(LENIENT, out, counts);
-        let answer = step.answer;
+        sums = count_in(sums, step.answer, 0, out, counts);
         draining = step.reader;
-        let next = count_in(sums, answer, 0, out, counts);
-        sums = next;
-        turns += 1;
     }
     sums
 }

@@ -6,7 +6,7 @@ ghost use Rattle.std.specs.Prelude.{◌≡◌, ◌≤◌, length};
 
 use blocks::FilePlace;
 use detect::{AudioFormat, Kind};
-use sp::Demuxed;
+use refusals::Refusal;
 use std::io;
 use test_samples::shown::{number, show, show_record_refusal, show_refusal, text, word};
 use test_samples::{ds2_file, long_records, two_blocks};
@@ -14,13 +14,13 @@ use test_samples::{ds2_file, long_records, two_blocks};
 // The listing's lines.
 mod lines;
 
-fn show_answer(rt: &impl Print, answer: Demuxed) -> io::Result<()> {
+fn show_answer(rt: &impl Print, answer: Result<usize, Refusal>) -> io::Result<()> {
     match answer {
-        Demuxed::Packets(n) => {
+        Ok(n) => {
             number(rt, n)?;
             text(rt, b" packets")
         }
-        Demuxed::Refused(why) => show_refusal(rt, why),
+        Err(why) => show_refusal(rt, why),
     }
 }
 
@@ -46,28 +46,20 @@ fn example_1(rt: &impl Print) -> io::Result<()> {
 fn segments(file: [u8; 4096], table: &mut [u32]) -> usize
     requires { length file ≡ 4096 }
 {
-    let answer = qp::demux_ds2_qp(&file[0..2560], table);
-    match answer {
-        qp::Demuxed::Segments(totals) => totals.segments,
-        qp::Demuxed::Refused(_) => 0,
+    match qp::demux_ds2_qp(&file[0..2560], table) {
+        Ok(totals) => totals.segments,
+        Err(_) => 0,
     }
-}
-
-fn one_if_equal(a: usize, b: usize) -> usize
-    ensures { result ≤ 1 }
-{
-    if a == b { 1 } else { 0 }
 }
 
 // For how many counts of the second block there are so many segments.
 fn counts_with(count: u8, byte1: u8, many: usize) -> usize {
     let mut counts: usize = 0;
-    let mut next: usize = 0;
-    while next < 256 {
+    for next in 0..=255 {
         let mut table = [0u32; 2 * qp::ENTRY];
-        let here = segments(two_blocks(count, byte1, next as u8), &mut table);
-        counts += one_if_equal(here, many);
-        next += 1;
+        if segments(two_blocks(count, byte1, next), &mut table) == many {
+            counts = counts.wrapping_add(1);
+        }
     }
     counts
 }
@@ -76,10 +68,10 @@ fn counts_with(count: u8, byte1: u8, many: usize) -> usize {
 fn show_segment(rt: &impl Print) -> io::Result<()> {
     let mut table = [0u32; 2 * qp::ENTRY];
     segments(two_blocks(9, 3, 9), &mut table);
-    word(rt, table[0])?;
-    word(rt, table[1])?;
-    word(rt, table[2])?;
-    word(rt, table[3])
+    for value in &table[..qp::ENTRY] {
+        word(rt, *value)?;
+    }
+    Ok(())
 }
 
 // 2: a second block that follows the first, and one that does not.
@@ -120,13 +112,12 @@ fn show_records(rt: &impl Print, file: [u8; 4096]) -> io::Result<()>
 {
     let mut records = [0u32; 16];
     let mut segments = [0u32; qp7::ENTRY];
-    let answer = qp7::demux_ds2_qp7(&file[0..2048], &mut records, &mut segments);
-    match answer {
-        qp7::Demuxed::Tables(totals) => {
+    match qp7::demux_ds2_qp7(&file[0..2048], &mut records, &mut segments) {
+        Ok(totals) => {
             number(rt, totals.records)?;
             text(rt, b" records")
         }
-        qp7::Demuxed::Refused(why) => show_record_refusal(rt, why),
+        Err(why) => show_record_refusal(rt, why),
     }
 }
 
@@ -140,13 +131,7 @@ fn example_5(rt: &impl Print) -> io::Result<()> {
 }
 
 fn sum(counts: &[u8; 13]) -> usize {
-    let mut sum: usize = 0;
-    let mut k = 0;
-    while k < 13 {
-        sum += tables::wide(counts[k]);
-        k += 1;
-    }
-    sum
+    counts.iter().fold(0, |sum: usize, count| sum.wrapping_add(usize::from(*count)))
 }
 
 // One block, flag 0, that announces 13 packets.
@@ -163,7 +148,7 @@ fn example_6(rt: &impl Print) -> io::Result<()> {
     text(rt, b"6: one block")?;
     show_block(rt, ds2_file(1, 13, 0), &mut counts)?;
     text(rt, b", the last has")?;
-    number(rt, tables::wide(counts[12]))?;
+    number(rt, usize::from(counts[12]))?;
     text(rt, b" file bytes, all have")?;
     number(rt, sum(&counts))?;
     text(rt, b"\n")
@@ -179,44 +164,23 @@ fn example_7(rt: &impl Print) -> io::Result<()> {
 }
 
 fn is_reported_sp(file: &[u8]) -> bool {
-    let format = detect::detect_format(file);
-    match format {
-        AudioFormat::Ds2Sp => true,
-        _ => false,
-    }
+    detect::detect_format(file) == AudioFormat::Ds2Sp
 }
 
 fn is_read_qp(file: &[u8]) -> bool {
     let byte = detect::ds2::detect_ds2_format_type(file, FilePlace(1536));
-    let kind = detect::ds2::kind_of(byte);
-    match kind {
-        Kind::Qp => true,
-        _ => false,
-    }
+    detect::ds2::kind_of(byte) == Kind::Qp
 }
 
-// 1 where a file of this type is reported as SP and read as QP.
-fn one_if_otherwise(byte: u8) -> usize
-    ensures { result ≤ 1 }
-{
+// Whether a file of this type is reported as SP and read as QP.
+fn is_otherwise(byte: u8) -> bool {
     let file = ds2_file(1, 1, byte);
-    if is_reported_sp(&file[0..2048]) {
-        if is_read_qp(&file[0..2048]) {
-            return 1;
-        }
-    }
-    0
+    is_reported_sp(&file[0..2048]) && is_read_qp(&file[0..2048])
 }
 
 // How many of the types 8 to 255 are reported as SP and read as QP.
 fn reported_otherwise() -> usize {
-    let mut n: usize = 0;
-    let mut byte: usize = 8;
-    while byte < 256 {
-        n += one_if_otherwise((byte % 256) as u8);
-        byte += 1;
-    }
-    n
+    (8..=255u8).filter(|byte| is_otherwise(*byte)).count()
 }
 
 fn main(rt: HostRuntime) -> io::Result<()> {

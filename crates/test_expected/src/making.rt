@@ -1,85 +1,71 @@
-// A file of the list: its magic, its length, where its blocks begin, how these are filled, and their headers; and what is asked of it. Rests on
-// the rest of this crate, on test_tools and tables.
-use crate::{Seen, next, read};
+// A file of the list: its magic, its length, where its blocks begin, how these are filled, and their headers. Rests on the rest of this
+// crate and on test_tools.
+use crate::{Numbers, Replay};
+use test_tools::from_place;
 
-// Which of a file's numbers is which. The first four are its magic.
-const START: usize = 5;
-
-const FILL: usize = 6;
-
-const SEED: usize = 7;
-
-const BLOCKS: usize = 8;
-
-// How long the file is, and how many numbers it has before its headers.
-const LONG: usize = 4;
-
-const SHAPE: usize = 9;
-
-// A case whose file was made: how long that is, what is asked of it, and how far the list is read.
+// What a case says of its file before the headers: how it begins, how long it is, where its blocks begin, how they are filled, the seed of
+// noise, and how many headers there are.
 #[derive(Clone, Copy)]
-pub struct Made {
-    pub seen: Seen,
-    pub asked: [u64; 16],
-    pub long: usize,
+struct Shape {
+    magic: [u8; 4],
+    long: usize,
+    start: usize,
+    fill: u64,
+    seed: u64,
+    blocks: u64,
 }
 
-// So many numbers of the list, put as bytes from a place on; answers up to where the list was read.
-fn put_numbers(list: &[u8], from: usize, many: usize, file: &mut [u8], place: usize) -> usize {
-    let mut at = from;
-    let mut k: usize = 0;
-    while k < many {
-        let number = next(list, at);
-        test_tools::set(file, test_tools::sum(place, k), (number.value % 256) as u8);
-        at = number.at;
-        k += 1;
+fn read_shape(numbers: &mut Numbers) -> Shape {
+    Shape {
+        magic: [
+            numbers.next_byte(),
+            numbers.next_byte(),
+            numbers.next_byte(),
+            numbers.next_byte(),
+        ],
+        long: numbers.next_size(),
+        start: numbers.next_size(),
+        fill: numbers.next(),
+        seed: numbers.next(),
+        blocks: numbers.next(),
     }
-    at
-}
-
-// The six bytes of each of so many headers.
-fn put_headers(list: &[u8], from: usize, blocks: u64, file: &mut [u8], start: usize) -> usize {
-    let mut at = from;
-    let mut place = start;
-    let mut block: u64 = 0;
-    while block < blocks {
-        at = put_numbers(list, at, 6, file, place);
-        place = test_tools::sum(place, 512);
-        block += 1;
-    }
-    at
 }
 
 // The payloads, before headers and magic are put over them.
 fn fill_by(fill: u64, seed: u64, file: &mut [u8], start: usize) {
-    test_tools::fill(file, 0, 0);
-    if fill == 1 {
-        test_tools::fill_with_noise(file, start, seed);
-        return;
-    }
-    if fill == 2 {
-        test_tools::fill(file, start, 255);
+    file.fill(0);
+    let payloads = from_place(file, start);
+    match fill {
+        1 => test_tools::fill_with_noise(payloads, seed),
+        2 => payloads.fill(255),
+        _ => {}
     }
 }
 
-// Makes the file of some numbers that stand at `from` in the list, with its headers after them; answers up to where the list was read.
-fn make(list: &[u8], from: usize, shape: [u64; 16], headers: usize, file: &mut [u8]) -> usize {
-    let start = shape[START] as usize;
-    fill_by(shape[FILL], shape[SEED], file, start);
-    let at = put_headers(list, headers, shape[BLOCKS], file, start);
-    put_numbers(list, from, 4, file, 0);
-    at
+// The six bytes of each of so many headers.
+fn put_headers(numbers: &mut Numbers, blocks: u64, file: &mut [u8], start: usize) {
+    let mut place = start;
+    for _ in 0..blocks {
+        for k in 0..6 {
+            test_tools::set(file, place.wrapping_add(k), numbers.next_byte());
+        }
+        place = place.wrapping_add(512);
+    }
 }
 
-// The next case of the list, of which so many numbers are asked: its file is made at the front of the space, as far as there is room.
-pub fn next_case(list: &[u8], before: Seen, asked: usize, space: &mut [u8]) -> Made {
-    let seen = crate::with_case(list, before);
-    let shape = read(list, seen.at, SHAPE);
-    let values = shape.values;
-    let long = tables::lesser(values[LONG] as usize, space.len());
-    let from = make(list, seen.at, values, shape.at, &mut space[0..long]);
-    let case = read(list, from, asked);
-    let asked = case.values;
-    let seen = crate::read_to(seen, case.at);
-    Made { seen, asked, long }
+// Makes the file of a shape, with the headers that stand next in the list.
+fn make(numbers: &mut Numbers, shape: Shape, file: &mut [u8]) {
+    fill_by(shape.fill, shape.seed, file, shape.start);
+    put_headers(numbers, shape.blocks, file, shape.start);
+    test_tools::put(file, 0, &shape.magic);
+}
+
+// Begins the next case of the list: its file is made at the front of the space, as far as there is room, and handed out.
+pub fn next_case<'a, R: Print>(replay: &mut Replay<'_, R>, space: &'a mut [u8]) -> &'a [u8] {
+    replay.begin_case();
+    let shape = read_shape(&mut replay.numbers);
+    let long = shape.long.min(space.len());
+    let file = &mut space[..long];
+    make(&mut replay.numbers, shape, file);
+    file
 }

@@ -1,12 +1,12 @@
 // A recording fed to a reader piece by piece, with digests of what comes out. All of it is for the crates above. Rests on reader,
-// test_sums, test_tools and tables.
+// test_sums and test_tools.
 #![tactic(auto)]
 
 ghost use Rattle.std.specs.Prelude.{◌<◌, ◌≤◌};
 ghost use Rattle.reader.specs.State.{Reached};
 
 use reader::Reader;
-use test_sums::{NUMBER, Sums, count_in, none};
+use test_sums::{Sums, count_in};
 use test_tools::Cuts;
 
 // A reader and what came out of it.
@@ -22,17 +22,18 @@ fn piece_end(cuts: Cuts, at: usize, long: usize) -> usize
     ensures { (at < result) × (result ≤ long) }
 {
     if at < cuts.first {
-        return tables::lesser(cuts.first, long);
+        return cuts.first.min(long);
     }
     if at < cuts.second {
-        return tables::lesser(cuts.second, long);
+        return cuts.second.min(long);
     }
     if cuts.step == 0 {
         return long;
     }
-    let state = test_tools::noise(std::num::wrapping_add_u64(at as u64, cuts.step as u64));
-    let far = test_tools::below(state, cuts.step as u64) as usize;
-    at + 1 + tables::lesser(far, long - at - 1)
+    let step = cuts.step as u64;
+    let state = test_tools::noise(step.wrapping_add(at as u64));
+    let far = test_tools::below(state, step) as usize;
+    at + 1 + far.min(long - at - 1)
 }
 
 // Feeds a piece to a reader.
@@ -40,13 +41,11 @@ pub fn take_piece(fed: Fed, piece: &[u8], out: &mut [u8], counts: &mut [u8]) -> 
     requires { Reached fed.reader }
     ensures { Reached result.reader }
 {
-    let reader = fed.reader;
-    let before = fed.sums;
-    let step = reader.piece(piece, out, counts);
-    let answer = step.answer;
-    let next = step.reader;
-    let sums = count_in(before, answer, piece.len(), out, counts);
-    Fed { reader: next, sums }
+    let step = fed.reader.piece(piece, out, counts);
+    Fed {
+        reader: step.reader,
+        sums: count_in(fed.sums, step.answer, piece.len(), out, counts),
+    }
 }
 
 // Feeds a file to a reader, up to its end or to the first piece that is refused.
@@ -54,10 +53,12 @@ pub fn feed(reader: Reader, file: &[u8], cuts: Cuts, out: &mut [u8], counts: &mu
     requires { Reached reader }
     ensures { Reached result.reader }
 {
-    let sums = none();
-    let mut fed = Fed { reader, sums };
+    let mut fed = Fed {
+        reader,
+        sums: Sums::default(),
+    };
     let mut at: usize = 0;
-    while at < file.len() && fed.sums[NUMBER] == 0 {
+    while at < file.len() && fed.sums.number == 0 {
         let end = piece_end(cuts, at, file.len());
         fed = take_piece(fed, &file[at..end], out, counts);
         at = end;
@@ -71,10 +72,8 @@ fn repeat(before: Fed, piece: &[u8], times: usize, out: &mut [u8], counts: &mut 
     ensures { Reached result.reader }
 {
     let mut fed = before;
-    let mut k: usize = 0;
-    while k < times {
+    for _ in 0..times {
         fed = take_piece(fed, piece, out, counts);
-        k += 1;
     }
     fed
 }
@@ -84,11 +83,10 @@ pub fn past_the_limit() -> Sums {
     let piece = [0u8; 65536];
     let mut out = [0u8; 42];
     let mut counts = [0u8; 1];
-    let step = Reader::open(2);
-    let reader = step.reader;
-    let sums = none();
-    let fed = Fed { reader, sums };
+    let fed = Fed {
+        reader: Reader::open(2).reader,
+        sums: Sums::default(),
+    };
     let full = repeat(fed, &piece, 4096, &mut out, &mut counts);
-    let over = repeat(full, &piece[..1], 1, &mut out, &mut counts);
-    over.sums
+    take_piece(full, &piece[..1], &mut out, &mut counts).sums
 }

@@ -1,12 +1,13 @@
 // What QP and QP7 calls answered, in numbers, and digests of their segments with the bytes of the frames and records, each found, filled and
-// shown by the calls. All of it is for the crates above. Rests on frames, qp, qp7 and blocks, and on test_tools.
+// shown by the calls. All of it is for the crates above. Rests on frames, qp, qp7, refusals and blocks, and on test_tools.
 #![tactic(auto)]
 
 use blocks::StreamPlace;
-use test_tools::{mix, sum, word};
+use refusals::{Numbers, Refusal};
+use test_tools::{digest_all, mix, part, word};
 
-// What is handed out of a table: how much, how much of it short, and how many bytes; and a digest of it all.
-#[derive(Clone, Copy)]
+// What is handed out of a table: how much, how much of it short, and how many bytes; and a digest of it all. By default nothing.
+#[derive(Clone, Copy, Default)]
 pub struct Gathered {
     pub many: usize,
     pub short: usize,
@@ -14,38 +15,34 @@ pub struct Gathered {
     pub digest: u64,
 }
 
-// A digest with so many bytes more of the stream, filled and shown.
-fn with_shown(before: u64, file: &[u8], place: StreamPlace, size: usize) -> u64 {
-    let mut scratch = [0u8; 56];
-    frames::fill(file, place, size, &mut scratch);
-    let shown = frames::show(file, place, size, &scratch);
-    test_tools::digest(before, shown, shown.len())
+// With two numbers in front of what follows.
+fn with_head(before: Gathered, first: usize, second: usize) -> Gathered {
+    Gathered {
+        digest: mix(mix(before.digest, first as u64), second as u64),
+        ..before
+    }
 }
 
-// With frame k of a segment, if it is there.
-fn with_frame(
+// With so many bytes of the stream, filled and shown, which are one frame or record more, maybe a short one.
+fn with_bytes(
     before: Gathered,
     file: &[u8],
-    start: StreamPlace,
-    long: usize,
-    k: usize,
+    place: StreamPlace,
+    size: usize,
+    is_short: bool,
 ) -> Gathered {
-    let found = frames::frame(start, long, k);
-    let size = found.size;
-    if size == 0 {
-        return before;
-    }
-    let digest = with_shown(before.digest, file, found.place, size);
-    let short = if size < 56 { 1 } else { 0 };
+    let mut scratch = [0u8; 56];
+    let _ = frames::fill(file, place, size, &mut scratch);
+    let shown = frames::show(file, place, size, &scratch);
     Gathered {
-        many: sum(before.many, 1),
-        short: sum(before.short, short),
-        bytes: sum(before.bytes, size),
-        digest,
+        many: before.many.wrapping_add(1),
+        short: before.short.wrapping_add(usize::from(is_short)),
+        bytes: before.bytes.wrapping_add(size),
+        digest: digest_all(before.digest, shown),
     }
 }
 
-// With so many frames of a segment.
+// With so many frames of a segment, as far as they are there.
 fn with_frames(
     before: Gathered,
     file: &[u8],
@@ -54,46 +51,24 @@ fn with_frames(
     frames: usize,
 ) -> Gathered {
     let mut all = before;
-    let mut k = 0;
-    while k < frames {
-        all = with_frame(all, file, start, long, k);
-        k += 1;
+    for k in 0..frames {
+        let found = frames::frame(start, long, k);
+        if found.size != 0 {
+            all = with_bytes(all, file, found.place, found.size, found.size < 56);
+        }
     }
     all
 }
 
-// With two numbers in front of what follows.
-fn with_head(before: Gathered, first: usize, second: usize) -> Gathered {
-    Gathered {
-        many: before.many,
-        short: before.short,
-        bytes: before.bytes,
-        digest: mix(mix(before.digest, first as u64), second as u64),
-    }
-}
-
-fn nothing() -> Gathered {
-    Gathered {
-        many: 0,
-        short: 0,
-        bytes: 0,
-        digest: 0,
-    }
-}
-
 // The QP segments of a table: of each its frame total, its reset, and every byte of its frames.
 pub fn of_segments(file: &[u8], table: &[u32], segments: usize) -> Gathered {
-    let mut all = nothing();
-    let mut at: usize = 0;
-    let mut k = 0;
-    while k < segments {
-        let start = StreamPlace(word(table, at));
-        let long = word(table, sum(at, 1));
-        let frames = word(table, sum(at, 2));
-        let reset = word(table, sum(at, 3));
-        all = with_frames(with_head(all, frames, reset), file, start, long, frames);
-        at = sum(at, qp::ENTRY);
-        k += 1;
+    let mut all = Gathered::default();
+    for entry in table.chunks(qp::ENTRY).take(segments) {
+        let start = StreamPlace(word(entry, 0));
+        let long = word(entry, 1);
+        let frames = word(entry, 2);
+        all = with_head(all, frames, word(entry, 3));
+        all = with_frames(all, file, start, long, frames);
     }
     all
 }
@@ -101,74 +76,52 @@ pub fn of_segments(file: &[u8], table: &[u32], segments: usize) -> Gathered {
 // The size of the record at a place, by its second byte.
 fn record_size(file: &[u8], place: StreamPlace) -> usize {
     let mut scratch = [0u8; 56];
-    frames::fill(file, place, 2, &mut scratch);
-    let shown = frames::show(file, place, 2, &scratch);
-    if shown.len() < 2 {
-        return 0;
-    }
-    if shown[1] < 128 { 12 } else { 56 }
-}
-
-// With the record at a place.
-fn with_record(before: Gathered, file: &[u8], place: StreamPlace) -> Gathered {
-    let size = record_size(file, place);
-    let digest = with_shown(before.digest, file, place, size);
-    Gathered {
-        many: sum(before.many, 1),
-        short: before.short,
-        bytes: sum(before.bytes, size),
-        digest,
+    let _ = frames::fill(file, place, 2, &mut scratch);
+    match frames::show(file, place, 2, &scratch) {
+        [_, second, ..] => if *second < 128 { 12 } else { 56 },
+        _ => 0,
     }
 }
 
-// With so many records from a number on.
-fn with_records(
-    before: Gathered,
-    file: &[u8],
-    records: &[u32],
-    first: usize,
-    many: usize,
-) -> Gathered {
+// With the records at some places.
+fn with_records(before: Gathered, file: &[u8], places: &[u32]) -> Gathered {
     let mut all = before;
-    let mut k = 0;
-    while k < many {
-        let place = StreamPlace(word(records, sum(first, k)));
-        all = with_record(all, file, place);
-        k += 1;
+    for place in places {
+        let place = StreamPlace(*place as usize);
+        all = with_bytes(all, file, place, record_size(file, place), false);
     }
     all
 }
 
 // The QP7 segments of two tables: of each how many records it has, its reset, and every byte of its records.
 pub fn of_records(file: &[u8], records: &[u32], table: &[u32], segments: usize) -> Gathered {
-    let mut all = nothing();
-    let mut at: usize = 0;
-    let mut k = 0;
-    while k < segments {
-        let first = word(table, at);
-        let many = word(table, sum(at, 1));
-        let reset = word(table, sum(at, 2));
-        all = with_records(with_head(all, many, reset), file, records, first, many);
-        at = sum(at, qp7::ENTRY);
-        k += 1;
+    let mut all = Gathered::default();
+    for entry in table.chunks(qp7::ENTRY).take(segments) {
+        let many = word(entry, 1);
+        all = with_head(all, many, word(entry, 2));
+        all = with_records(all, file, part(records, word(entry, 0), many));
     }
     all
 }
 
 // A refusal and the number beside it, then segments and frames announced.
-pub fn qp_said(answer: qp::Demuxed) -> [u64; 4] {
+pub fn qp_said(answer: Result<qp::Totals, Refusal>) -> [u64; 4] {
     match answer {
-        qp::Demuxed::Refused(why) => [why.number, why.beside, 0, 0],
-        qp::Demuxed::Segments(totals) => { [0, 0, totals.segments as u64, totals.announced as u64] }
+        Err(why) => {
+            let why = Numbers::from(why);
+            [why.number, why.beside, 0, 0]
+        }
+        Ok(totals) => [0, 0, totals.segments as u64, totals.announced as u64],
     }
 }
 
 // A refusal and the number beside it, then records and segments, then the refused record's size and the bytes that are absent.
-pub fn qp7_said(answer: qp7::Demuxed) -> [u64; 6] {
+pub fn qp7_said(answer: Result<qp7::Totals, Refusal>) -> [u64; 6] {
     match answer {
-        qp7::Demuxed::Refused(why) => [why.number, why.beside, 0, 0, why.size, why.absent],
-        qp7::Demuxed::Tables(totals) => {
-            [0, 0, totals.records as u64, totals.segments as u64, 0, 0]
+        Err(why) => {
+            let why = Numbers::from(why);
+            [why.number, why.beside, 0, 0, why.size, why.absent]
         }
+        Ok(totals) => [0, 0, totals.records as u64, totals.segments as u64, 0, 0],
     }
 }

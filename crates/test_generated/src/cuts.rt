@@ -3,10 +3,21 @@
 use crate::Made;
 use test_tools::{Cuts, below, noise};
 
+// A way to cut a file: once, at every place; in three around the edges of blocks; or where noise chooses.
+#[derive(Clone, Copy, PartialEq)]
+pub enum Way {
+    Everywhere,
+    AroundEdges,
+    ByNoise,
+}
+
 // So many bytes past the beginning of a block, less 3.
 fn near_edge(made: Made, block: usize, past: usize) -> usize {
-    let at = test_tools::sum(made.start, test_tools::sum(512 * (block % 40), past));
-    at - tables::lesser(at, 3)
+    let at = made
+        .start
+        .wrapping_add(512 * (block % 40))
+        .wrapping_add(past);
+    at.saturating_sub(3)
 }
 
 // Two places within 3 bytes of the edges of blocks, by a number.
@@ -21,8 +32,9 @@ fn edge_cuts(made: Made, k: usize) -> Cuts {
 
 // Two places of the file and a step that noise chooses, apart from the noise that made it.
 fn any_cuts(made: Made, number: u64, k: usize) -> Cuts {
-    let most = test_tools::sum(made.long, 1) as u64;
-    let a = noise(noise(std::num::wrapping_add_u64(555555 * (number % 1000000), k as u64)));
+    let most = made.long.wrapping_add(1) as u64;
+    let seed = 555555 * (number % 1000000);
+    let a = noise(noise(seed.wrapping_add(k as u64)));
     let b = noise(a);
     let c = noise(b);
     Cuts {
@@ -32,49 +44,42 @@ fn any_cuts(made: Made, number: u64, k: usize) -> Cuts {
     }
 }
 
-// The cut of a number, for one of three ways: 0 every place, 1 around edges, 2 what noise chooses.
-pub fn cuts_by(way: u64, made: Made, number: u64, k: usize) -> Cuts {
-    if way == 0 {
-        return Cuts {
+// The cut of a number.
+pub fn cuts_by(way: Way, made: Made, number: u64, k: usize) -> Cuts {
+    match way {
+        Way::Everywhere => Cuts {
             first: k,
             second: k,
             step: 0,
-        };
+        },
+        Way::AroundEdges => edge_cuts(made, k),
+        Way::ByNoise => any_cuts(made, number, k),
     }
-    if way == 1 {
-        return edge_cuts(made, k);
-    }
-    any_cuts(made, number, k)
 }
 
 // Whether a cut is tried: around edges, only if there are three pieces.
-pub fn is_tried(way: u64, cuts: Cuts) -> bool {
-    way != 1 || cuts.first < cuts.second
+pub fn is_tried(way: Way, cuts: Cuts) -> bool {
+    way != Way::AroundEdges || cuts.first < cuts.second
 }
 
-// How many pairs of places there are around the edges of so many blocks, with 7 places an edge.
+// How many pairs of places there are around the edges of so many blocks, with 7 places an edge; none are tried of a larger file.
 fn edge_pairs(blocks: usize) -> usize {
-    if blocks == 1 {
-        return 196;
+    match blocks {
+        1 => 196,
+        2 => 441,
+        3 => 784,
+        _ => 0,
     }
-    if blocks == 2 {
-        return 441;
-    }
-    if blocks == 3 { 784 } else { 0 }
 }
 
 // How many cuts: every place of a small file that has packets; all pairs of places around its edges; or four that noise chooses.
-pub fn times_by(way: u64, made: Made, packets: u64) -> usize {
-    if way == 2 {
-        return 4;
-    }
+pub fn times_by(way: Way, made: Made, packets: u64) -> usize {
     let pairs = edge_pairs(made.blocks);
-    if pairs == 0 || packets < 12 {
-        return 0;
-    }
-    if way == 0 {
-        test_tools::sum(made.long, 1)
-    } else {
-        pairs
+    let is_small = pairs != 0 && 12 <= packets;
+    match way {
+        Way::Everywhere if is_small => made.long.wrapping_add(1),
+        Way::AroundEdges if is_small => pairs,
+        Way::ByNoise => 4,
+        _ => 0,
     }
 }

@@ -1,10 +1,10 @@
 // What was tried of the files, and lines that say it. Rests on the rest of this crate and on test_tools.
 use crate::Made;
 use std::io;
-use test_tools::{Cuts, say, sum};
+use test_tools::{Cuts, say};
 
 // What was tried: files, cuts, packets by pieces, frames and records; refused pieces (by 7) and refused files; and disagreements.
-#[derive(Clone, Copy)]
+#[derive(Clone, Copy, Default)]
 pub struct Tried {
     files: usize,
     cuts: usize,
@@ -13,19 +13,6 @@ pub struct Tried {
     sevens: usize,
     refused: usize,
     wrong: usize,
-}
-
-// Before the first file.
-pub fn none() -> Tried {
-    Tried {
-        files: 0,
-        cuts: 0,
-        packets: 0,
-        entries: 0,
-        sevens: 0,
-        refused: 0,
-        wrong: 0,
-    }
 }
 
 // The line at the end.
@@ -43,29 +30,23 @@ pub fn conclude(rt: &impl Print, tried: Tried) -> io::Result<()> {
 // A file more, of which so much is handed out, if it is not refused.
 pub fn with_file(tried: Tried, made: Made, out: u64, refusal: u64, wrong: usize) -> Tried {
     let entries = if crate::is_sp(made) { 0 } else { out };
-    let refused = if refusal == 0 { 0 } else { 1 };
     Tried {
-        files: sum(tried.files, 1),
-        cuts: tried.cuts,
-        packets: tried.packets,
-        entries: sum(tried.entries, entries as usize),
-        sevens: tried.sevens,
-        refused: sum(tried.refused, refused),
-        wrong: sum(tried.wrong, wrong),
+        files: tried.files.wrapping_add(1),
+        entries: tried.entries.wrapping_add(entries as usize),
+        refused: tried.refused.wrapping_add(usize::from(refusal != 0)),
+        wrong: tried.wrong.wrapping_add(wrong),
+        ..tried
     }
 }
 
 // A cut more, which brought so many packets before the end, if it is not refused.
 pub fn with_cut(tried: Tried, packets: u64, refusal: u64, wrong: usize) -> Tried {
-    let seven = if refusal == 0 { 0 } else { 1 };
     Tried {
-        files: tried.files,
-        cuts: sum(tried.cuts, 1),
-        packets: sum(tried.packets, packets as usize),
-        entries: tried.entries,
-        sevens: sum(tried.sevens, seven),
-        refused: tried.refused,
-        wrong: sum(tried.wrong, wrong),
+        cuts: tried.cuts.wrapping_add(1),
+        packets: tried.packets.wrapping_add(packets as usize),
+        sevens: tried.sevens.wrapping_add(usize::from(refusal != 0)),
+        wrong: tried.wrong.wrapping_add(wrong),
+        ..tried
     }
 }
 

@@ -4,7 +4,7 @@
 #![tactic(auto)]
 
 use std::io;
-use test_generated::tried::{conclude, none};
+use test_generated::tried::conclude;
 
 // One file, fed and drained.
 mod drained;
@@ -20,6 +20,6 @@ fn room() -> [u8; 430080] {
 fn main(rt: HostRuntime) -> io::Result<()> {
     let mut out = room();
     let mut counts = [0u8; 10240];
-    let tried = cuts::all(&rt, none(), &mut out, &mut counts)?;
+    let tried = cuts::all(&rt, &mut out, &mut counts)?;
     conclude(&rt, tried)
 }

@@ -1,206 +1,232 @@
 // One file's whole reading and its tally, in numbers. All of it is for the crates above. Rests on the whole calls and the tally, on
-// test_generated, and on test_fetched, test_sums, test_tools and tables.
+// refusals and test_generated, and on test_fetched, test_sums and test_tools.
 #![tactic(auto)]
 
-use tally::{FileKind, Tallied};
-use test_fetched::{Gathered, qp_said, qp7_said};
+use refusals::{Numbers, Refusal};
+use tally::FileKind;
+use test_fetched::Gathered;
 use test_generated::Made;
-use test_sums::{BESIDE, BYTES, COUNTS, NUMBER, PACKETS};
+use test_tools::{digest_all, part};
 
-// A file's whole reading: the eleven numbers that a tally has of it, and digests of its packets and of their counts.
-pub type Whole = [u64; 13];
+// A tally in numbers: refusal and beside; kind, audio start and blocks; the frames that are announced, what is handed out, how much of it
+// short, and its bytes; and a refused record's size and the bytes that are absent.
+#[derive(Clone, Copy, Default)]
+pub struct Told {
+    pub number: u64,
+    pub beside: u64,
+    pub kind: u64,
+    pub start: u64,
+    pub blocks: u64,
+    pub announced: u64,
+    pub many: u64,
+    pub short: u64,
+    pub bytes: u64,
+    pub size: u64,
+    pub absent: u64,
+}
 
-// How many frames it announces, how many packets, frames or records it hands out, and the digests.
-pub const ANNOUNCED: usize = 5;
+impl Told {
+    // A refused file has 0 for each of its other numbers.
+    fn refused(why: Refusal) -> Self {
+        let why = Numbers::from(why);
+        Told {
+            number: why.number,
+            beside: why.beside,
+            size: why.size,
+            absent: why.absent,
+            ..Told::default()
+        }
+    }
 
-pub const MANY: usize = 6;
-
-pub const DIGEST: usize = 11;
-
-pub const DIGEST_OF_COUNTS: usize = 12;
-
-fn byte(file: &[u8], at: usize) -> usize {
-    if at < file.len() {
-        tables::wide(file[at])
-    } else {
-        0
+    // All of them, in that order.
+    pub fn numbers(&self) -> [u64; 11] {
+        [
+            self.number,
+            self.beside,
+            self.kind,
+            self.start,
+            self.blocks,
+            self.announced,
+            self.many,
+            self.short,
+            self.bytes,
+            self.size,
+            self.absent,
+        ]
     }
 }
 
-// What packets in a row leave: how many of them are short, and whether the byte that is carried on came from the file.
+// A file's whole reading: what a tally has of it, and digests of what is handed out and of its packets' counts.
 #[derive(Clone, Copy)]
+pub struct Reading {
+    pub told: Told,
+    pub digest: u64,
+    pub digest_of_counts: u64,
+}
+
+impl Reading {
+    fn refused(why: Refusal) -> Self {
+        Reading {
+            told: Told::refused(why),
+            digest: 0,
+            digest_of_counts: 0,
+        }
+    }
+}
+
+fn byte(file: &[u8], at: usize) -> usize {
+    usize::from(file.get(at).copied().unwrap_or(0))
+}
+
+// What packets in a row leave: how many of them are short, and whether the byte that is carried on came from the file. Before any packet
+// that is a zero from nowhere.
+#[derive(Clone, Copy, Default)]
 struct Left {
     short: usize,
     sourced: bool,
 }
 
-// Before any packet: the carried byte is a zero from nowhere.
-fn nothing() -> Left {
-    Left {
-        short: 0,
-        sourced: false,
-    }
-}
-
 // Whether a packet with so many file bytes is short: by its read, and a swapped one by what it is given too.
-fn is_short(count: usize, swapped: bool, sourced: bool) -> bool {
+fn is_short(count: u8, swapped: bool, sourced: bool) -> bool {
     if swapped {
-        return count != 40 || !sourced;
+        count != 40 || !sourced
+    } else {
+        count != 42
     }
-    count != 42
 }
 
 // A packet more. Byte 40 of an unswapped read is carried on, and a swapped one leaves the carry as it was.
-fn with_packet(before: Left, count: usize, swapped: bool) -> Left {
-    let more = if is_short(count, swapped, before.sourced) {
-        1
-    } else {
-        0
-    };
+fn with_packet(before: Left, count: u8, swapped: bool) -> Left {
+    let is_short = is_short(count, swapped, before.sourced);
     Left {
-        short: test_tools::sum(before.short, more),
+        short: before.short.wrapping_add(usize::from(is_short)),
         sourced: if swapped { before.sourced } else { 40 < count },
     }
 }
 
 // Some packets more in a row, by their counts.
-fn short_in_run(before: Left, counts: &[u8], first: usize, many: usize, swap: bool) -> Left {
+fn short_in_run(before: Left, counts: &[u8], swap: bool) -> Left {
     let mut left = before;
-    let mut k = 0;
-    while k < many {
-        let count = byte(counts, test_tools::sum(first, k));
-        left = with_packet(left, count, (k % 2 == 0) == swap);
-        k += 1;
+    let mut swapped = swap;
+    for count in counts {
+        left = with_packet(left, *count, swapped);
+        swapped = !swapped;
     }
     left
 }
 
 // How many packets of a DSS file are short: each block begins by its own flag, and with what those before it carry on.
 fn short_in_dss(file: &[u8], made: Made, counts: &[u8]) -> usize {
-    let mut left = nothing();
+    let mut left = Left::default();
     let mut first: usize = 0;
-    let mut place = made.start;
-    let mut block = 0;
-    while block < made.blocks {
-        let many = byte(file, test_tools::sum(place, 2));
-        let swap = 128 <= byte(file, place);
-        left = short_in_run(left, counts, first, many, swap);
-        first = test_tools::sum(first, many);
-        place = test_tools::sum(place, 512);
-        block += 1;
+    for block in part(file, made.start, made.blocks.wrapping_mul(512)).chunks(512) {
+        let many = byte(block, 2);
+        left = short_in_run(left, part(counts, first, many), 128 <= byte(block, 0));
+        first = first.wrapping_add(many);
     }
     left.short
 }
 
-// How many file bytes so many packets have.
-fn sum_of(counts: &[u8], many: usize) -> usize {
-    let mut sum: usize = 0;
-    let mut k = 0;
-    while k < many {
-        sum = test_tools::sum(sum, byte(counts, k));
-        k += 1;
-    }
-    sum
-}
-
-fn short_in(file: &[u8], made: Made, ds2: bool, counts: &[u8], many: usize) -> usize {
+fn short_in(file: &[u8], made: Made, ds2: bool, counts: &[u8]) -> usize {
     if ds2 {
-        let left = short_in_run(nothing(), counts, 0, many, 128 <= byte(file, made.start));
-        return left.short;
+        short_in_run(Left::default(), counts, 128 <= byte(file, made.start)).short
+    } else {
+        short_in_dss(file, made, counts)
     }
-    short_in_dss(file, made, counts)
 }
 
-// A refused reading has 0 for each of its other numbers, but for a record's size and the bytes that are absent.
-fn refused(number: u64, beside: u64, size: u64, absent: u64) -> Whole {
-    [number, beside, 0, 0, 0, 0, 0, 0, 0, size, absent, 0, 0]
+// How many file bytes packets have, by their counts.
+fn sum_of(counts: &[u8]) -> u64 {
+    counts
+        .iter()
+        .fold(0, |sum: u64, count| sum.wrapping_add(u64::from(*count)))
 }
 
 // What the SP call of a family handed out, in so many packets.
-fn read_sp(file: &[u8], made: Made, ds2: bool, came: test_sums::Sums, counts: &[u8]) -> Whole {
-    let many = came[PACKETS];
-    [
-        0,
-        0,
-        if ds2 { 1 } else { 0 },
-        made.start as u64,
-        made.blocks as u64,
-        many,
-        many,
-        short_in(file, made, ds2, counts, many as usize) as u64,
-        sum_of(counts, many as usize) as u64,
-        0,
-        0,
-        came[BYTES],
-        came[COUNTS],
-    ]
+fn read_sp(file: &[u8], made: Made, ds2: bool, many: usize, out: &[u8], counts: &[u8]) -> Reading {
+    let packets = part(out, 0, test_tools::packet_bytes(many));
+    let counts = part(counts, 0, many);
+    Reading {
+        told: Told {
+            kind: u64::from(ds2),
+            start: made.start as u64,
+            blocks: made.blocks as u64,
+            announced: many as u64,
+            many: many as u64,
+            short: short_in(file, made, ds2, counts) as u64,
+            bytes: sum_of(counts),
+            ..Told::default()
+        },
+        digest: digest_all(0, packets),
+        digest_of_counts: digest_all(0, counts),
+    }
 }
 
 // The whole SP reading, as DS2 or as DSS.
-fn whole_sp(file: &[u8], made: Made, ds2: bool, out: &mut [u8], counts: &mut [u8]) -> Whole {
-    let answer = test_sums::demux(file, !ds2, out, counts);
-    let came = test_sums::told(answer, out, counts);
-    if came[NUMBER] != 0 {
-        return refused(came[NUMBER], came[BESIDE], 0, 0);
+fn whole_sp(file: &[u8], made: Made, ds2: bool, out: &mut [u8], counts: &mut [u8]) -> Reading {
+    match test_sums::demux(file, !ds2, out, counts) {
+        Ok(many) => read_sp(file, made, ds2, many, out, counts),
+        Err(why) => Reading::refused(why),
     }
-    read_sp(file, made, ds2, came, counts)
 }
 
 // What a table hands out, of a kind and so many frames announced.
-fn gathered(kind: u64, made: Made, announced: u64, all: Gathered) -> Whole {
-    [
-        0,
-        0,
-        kind,
-        made.start as u64,
-        made.blocks as u64,
-        announced,
-        all.many as u64,
-        all.short as u64,
-        all.bytes as u64,
-        0,
-        0,
-        all.digest,
-        0,
-    ]
-}
-
-fn whole_qp(file: &[u8], made: Made) -> Whole {
-    let mut table = [0u32; 256];
-    let said = qp_said(qp::demux_ds2_qp(file, &mut table));
-    if said[0] != 0 {
-        return refused(said[0], said[1], 0, 0);
+fn gathered(kind: u64, made: Made, announced: usize, all: Gathered) -> Reading {
+    Reading {
+        told: Told {
+            kind,
+            start: made.start as u64,
+            blocks: made.blocks as u64,
+            announced: announced as u64,
+            many: all.many as u64,
+            short: all.short as u64,
+            bytes: all.bytes as u64,
+            ..Told::default()
+        },
+        digest: all.digest,
+        digest_of_counts: 0,
     }
-    let all = test_fetched::of_segments(file, &table, said[2] as usize);
-    gathered(2, made, said[3], all)
 }
 
-fn whole_qp7(file: &[u8], made: Made) -> Whole {
+fn whole_qp(file: &[u8], made: Made) -> Reading {
+    let mut table = [0u32; 256];
+    match qp::demux_ds2_qp(file, &mut table) {
+        Ok(totals) => {
+            let all = test_fetched::of_segments(file, &table, totals.segments);
+            gathered(2, made, totals.announced, all)
+        }
+        Err(why) => Reading::refused(why),
+    }
+}
+
+fn whole_qp7(file: &[u8], made: Made) -> Reading {
     let mut records = [0u32; 512];
     let mut segments = [0u32; 256];
-    let said = qp7_said(qp7::demux_ds2_qp7(file, &mut records, &mut segments));
-    if said[0] != 0 {
-        return refused(said[0], said[1], said[4], said[5]);
+    match qp7::demux_ds2_qp7(file, &mut records, &mut segments) {
+        Ok(totals) => {
+            let all = test_fetched::of_records(file, &records, &segments, totals.segments);
+            gathered(3, made, totals.records, all)
+        }
+        Err(why) => Reading::refused(why),
     }
-    let all = test_fetched::of_records(file, &records, &segments, said[3] as usize);
-    gathered(3, made, said[2], all)
 }
 
 // The table reading of a QP or QP7 file.
-fn whole_table(file: &[u8], made: Made) -> Whole {
+fn whole_table(file: &[u8], made: Made) -> Reading {
     if made.kind == 6 {
-        return whole_qp(file, made);
+        whole_qp(file, made)
+    } else {
+        whole_qp7(file, made)
     }
-    whole_qp7(file, made)
 }
 
 // The whole reading of any file. One of QP or QP7 blocks that announce nothing has type 0, and is read as DS2 SP.
-pub fn whole(file: &[u8], made: Made, out: &mut [u8], counts: &mut [u8]) -> Whole {
+pub fn whole(file: &[u8], made: Made, out: &mut [u8], counts: &mut [u8]) -> Reading {
     if made.kind < 6 {
         return whole_sp(file, made, made.kind == 0, out, counts);
     }
     let read = whole_table(file, made);
-    if read[0] != 11 {
+    if read.told.number != 11 {
         return read;
     }
     whole_sp(file, made, true, out, counts)
@@ -216,31 +242,18 @@ fn kind_number(kind: FileKind) -> u64 {
     }
 }
 
-// The tally in numbers: refusal and beside; kind, audio start and blocks; the frames that are announced, what is handed out, how much of it
-// short, and its bytes; and a refused record's size and the bytes that are absent.
-pub fn tallied(file: &[u8]) -> [u64; 11] {
-    let answer = tally::tally(file);
-    match answer {
-        Tallied::Refused(why) => {
-            [
-                why.number, why.beside, 0, 0, 0, 0, 0, 0, 0, why.size, why.absent,
-            ]
-        }
-        Tallied::Counted(figures) => {
-            let kind = figures.kind;
-            [
-                0,
-                0,
-                kind_number(kind),
-                figures.start.0 as u64,
-                figures.blocks as u64,
-                figures.announced as u64,
-                figures.out.many as u64,
-                figures.out.short as u64,
-                figures.out.bytes,
-                0,
-                0,
-            ]
-        }
+pub fn tallied(file: &[u8]) -> Told {
+    match tally::tally(file) {
+        Ok(figures) => Told {
+            kind: kind_number(figures.kind),
+            start: figures.start.0 as u64,
+            blocks: figures.blocks as u64,
+            announced: figures.announced as u64,
+            many: figures.out.many as u64,
+            short: figures.out.short as u64,
+            bytes: figures.out.bytes,
+            ..Told::default()
+        },
+        Err(why) => Told::refused(why),
     }
 }

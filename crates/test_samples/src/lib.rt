@@ -1,5 +1,5 @@
-// Files of which the examples speak, and how what is found in them is shown. For the programs above. Rests on tables, refusals and the
-// standard library.
+// Files of which the examples speak, and how what is found in them is shown. For the programs above. Rests on refusals and the standard
+// library.
 #![tactic(auto)]
 
 ghost use Rattle.std.specs.Prelude.{◌≡◌, length};
@@ -50,10 +50,8 @@ pub fn long_records(byte1: u8) -> [u8; 4096]
 {
     let mut file = ds2_file(1, 10, 7);
     file[1537] = byte1;
-    let mut k = 0;
-    while k < 506 {
-        file[1542 + k] = 255;
-        k += 1;
+    for place in 1542..2048 {
+        file[place] = 255;
     }
     file
 }
@@ -127,10 +125,8 @@ pub fn rising() -> [u8; 40]
     ensures { length result ≡ 40 }
 {
     let mut read = [0u8; 40];
-    let mut k = 0;
-    while k < 40 {
-        read[k] = (k % 256) as u8;
-        k += 1;
+    for k in 0..40u8 {
+        read[usize::from(k)] = k;
     }
     read
 }

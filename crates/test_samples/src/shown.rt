@@ -1,8 +1,7 @@
-// Words, numbers, bytes and refusals, written to the standard output. For the programs above. Rests on tables, refusals and the standard
-// library.
+// Words, numbers, bytes and refusals, written to the standard output. For the programs above. Rests on refusals and the standard library.
 ghost use Rattle.std.specs.Prelude.{◌+◌, ◌≤◌};
 
-use refusals::Refusal;
+use refusals::{Numbers, Refusal};
 use std::io;
 
 // Bytes as they are.
@@ -26,17 +25,15 @@ pub fn word(rt: &impl Print, value: u32) -> io::Result<()> {
 pub fn show(rt: &impl Print, bytes: &[u8; 42], at: usize, n: usize) -> io::Result<()>
     requires { at + n ≤ 42 }
 {
-    let mut k = 0;
-    while k < n {
-        let i = at + k;
-        number(rt, tables::wide(bytes[i]))?;
-        k += 1;
+    for byte in &bytes[at..at + n] {
+        number(rt, usize::from(*byte))?;
     }
     Ok(())
 }
 
 // A refusal: its number, and the number beside it.
 pub fn show_refusal(rt: &impl Print, why: Refusal) -> io::Result<()> {
+    let why = Numbers::from(why);
     text(rt, b" refused ")?;
     rt.print(why.number)?;
     text(rt, b" ")?;
@@ -46,6 +43,7 @@ pub fn show_refusal(rt: &impl Print, why: Refusal) -> io::Result<()> {
 // The refusal of a record: its size too, and how many bytes are absent.
 pub fn show_record_refusal(rt: &impl Print, why: Refusal) -> io::Result<()> {
     show_refusal(rt, why)?;
+    let why = Numbers::from(why);
     text(rt, b" ")?;
     rt.print(why.size)?;
     text(rt, b" ")?;

@@ -1,42 +1,46 @@
-// What SP calls answered and handed out, in numbers. All of it is for the crates above. Rests on sp and test_tools.
+// What SP calls answered and handed out, in numbers. All of it is for the crates above. Rests on sp, refusals and test_tools.
 #![tactic(auto)]
 
-use sp::Demuxed;
+use refusals::{Numbers, Refusal};
 use test_tools::{digest, digest_past, packet_bytes};
 
-// What came out so far, in eight numbers.
-pub type Sums = [u64; 8];
-
-// The refusal that ended it, and the number beside it: 0 and 0 where there was none.
-pub const NUMBER: usize = 0;
-
-pub const BESIDE: usize = 1;
-
-// The packets, and digests of them and of their counts.
-pub const PACKETS: usize = 2;
-
-pub const BYTES: usize = 3;
-
-pub const COUNTS: usize = 4;
-
-// A digest of the lent bytes past those that each call used.
-pub const PAST: usize = 5;
-
-// The bytes taken, and a digest of the numbers of packets that each piece brought.
-pub const TAKEN: usize = 6;
-
-pub const PIECES: usize = 7;
-
-// Before the first piece.
-pub fn none() -> Sums {
-    [0u64; 8]
+// What came out so far. By default nothing, as before the first piece.
+#[derive(Clone, Copy, Default)]
+pub struct Sums {
+    // The refusal that ended it, and the number beside it: 0 and 0 where there was none.
+    pub number: u64,
+    pub beside: u64,
+    // The packets, and digests of them and of their counts.
+    pub packets: u64,
+    pub bytes: u64,
+    pub counts: u64,
+    // A digest of the lent bytes past those that each call used.
+    pub past: u64,
+    // The bytes taken, and a digest of the numbers of packets that each piece brought.
+    pub taken: u64,
+    pub pieces: u64,
 }
 
-// How many packets an answer has.
-fn packets_in(answer: Demuxed) -> usize {
-    match answer {
-        Demuxed::Refused(_) => 0,
-        Demuxed::Packets(n) => n,
+impl Sums {
+    // The refusal and the number beside it.
+    pub fn refusal(&self) -> [u64; 2] {
+        [self.number, self.beside]
+    }
+
+    // The same, and the packets.
+    pub fn answer(&self) -> [u64; 3] {
+        [self.number, self.beside, self.packets]
+    }
+
+    // The same, and the digests of the packets and of their counts.
+    pub fn handed_out(&self) -> [u64; 5] {
+        [
+            self.number,
+            self.beside,
+            self.packets,
+            self.bytes,
+            self.counts,
+        ]
     }
 }
 
@@ -46,54 +50,47 @@ fn with_past(before: u64, many: usize, out: &[u8], counts: &[u8]) -> u64 {
     digest_past(past, counts, many)
 }
 
-// With a refusal.
-fn with_refusal(before: Sums, past: u64, number: u64, beside: u64) -> Sums {
-    let mut sums = before;
-    sums[NUMBER] = number;
-    sums[BESIDE] = beside;
-    sums[PAST] = past;
-    sums
-}
-
-// With so many packets, which a call brought that was given so many bytes.
-fn with_packets(
-    before: Sums,
-    past: u64,
-    many: usize,
+// With what a call answered that was given so many bytes, and left in lent memory.
+fn with_answer(
+    sums: Sums,
+    answer: Result<usize, Refusal>,
     taken: usize,
     out: &[u8],
     counts: &[u8],
 ) -> Sums {
-    [
-        0,
-        0,
-        std::num::wrapping_add_u64(before[PACKETS], many as u64),
-        digest(before[BYTES], out, packet_bytes(many)),
-        digest(before[COUNTS], counts, many),
-        past,
-        std::num::wrapping_add_u64(before[TAKEN], taken as u64),
-        test_tools::mix(before[PIECES], many as u64),
-    ]
-}
-
-// With what a call answered that was given so many bytes, and left in lent memory.
-fn with_answer(sums: Sums, answer: Demuxed, taken: usize, out: &[u8], counts: &[u8]) -> Sums {
-    let past = with_past(sums[PAST], packets_in(answer), out, counts);
+    let past = with_past(sums.past, answer.unwrap_or(0), out, counts);
     match answer {
-        Demuxed::Refused(why) => with_refusal(sums, past, why.number, why.beside),
-        Demuxed::Packets(n) => with_packets(sums, past, n, taken, out, counts),
+        Err(why) => {
+            let why = Numbers::from(why);
+            Sums {
+                number: why.number,
+                beside: why.beside,
+                past,
+                ..sums
+            }
+        }
+        Ok(many) => Sums {
+            number: 0,
+            beside: 0,
+            packets: sums.packets.wrapping_add(many as u64),
+            bytes: digest(sums.bytes, out, packet_bytes(many)),
+            counts: digest(sums.counts, counts, many),
+            past,
+            taken: sums.taken.wrapping_add(taken as u64),
+            pieces: test_tools::mix(sums.pieces, many as u64),
+        },
     }
 }
 
 // The same, and lent memory made again as it was before the call.
 pub fn count_in(
     sums: Sums,
-    answer: Demuxed,
+    answer: Result<usize, Refusal>,
     taken: usize,
     out: &mut [u8],
     counts: &mut [u8],
 ) -> Sums {
-    let many = packets_in(answer);
+    let many = answer.unwrap_or(0);
     let next = with_answer(sums, answer, taken, out, counts);
     test_tools::refill(out, packet_bytes(many));
     test_tools::refill(counts, many);
@@ -101,28 +98,29 @@ pub fn count_in(
 }
 
 // What one answer is in numbers.
-pub fn told(answer: Demuxed, out: &[u8], counts: &[u8]) -> Sums {
-    with_answer(none(), answer, 0, out, counts)
+pub fn told(answer: Result<usize, Refusal>, out: &[u8], counts: &[u8]) -> Sums {
+    with_answer(Sums::default(), answer, 0, out, counts)
 }
 
 // What one answer is in five numbers: its refusal and the number beside it, its packets, and digests of the output and of the counts, which go
 // 64 places past what the call used, where all is to be as it was.
-pub fn left(answer: Demuxed, out: &[u8], counts: &[u8]) -> [u64; 5] {
-    let came = told(answer, out, counts);
-    let many = came[PACKETS] as usize;
+pub fn left(answer: Result<usize, Refusal>, out: &[u8], counts: &[u8]) -> [u64; 5] {
+    let [number, beside, packets] = told(answer, out, counts).answer();
+    let many = packets as usize;
     [
-        came[NUMBER],
-        came[BESIDE],
-        came[PACKETS],
-        digest(0, out, test_tools::sum(packet_bytes(many), 64)),
-        digest(0, counts, test_tools::sum(many, 64)),
+        number,
+        beside,
+        packets,
+        digest(0, out, packet_bytes(many).wrapping_add(64)),
+        digest(0, counts, many.wrapping_add(64)),
     ]
 }
 
 // The whole SP call of a family.
-pub fn demux(file: &[u8], dss: bool, out: &mut [u8], counts: &mut [u8]) -> Demuxed {
+pub fn demux(file: &[u8], dss: bool, out: &mut [u8], counts: &mut [u8]) -> Result<usize, Refusal> {
     if dss {
-        return sp::demux_dss(file, out, counts);
+        sp::demux_dss(file, out, counts)
+    } else {
+        sp::demux_ds2(file, out, counts)
     }
-    sp::demux_ds2(file, out, counts)
 }

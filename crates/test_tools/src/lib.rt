@@ -1,6 +1,6 @@
 // What the testing programs share: noise that files are filled with, digests of what was handed out, and lines. A test that goes wrong is to
-// be seen, so nothing here demands anything of lent memory: what lies outside is left out. All of it is for the crates above. Rests on
-// tables, and on the standard library for what it reads and writes.
+// be seen, so nothing here demands anything of lent memory: what lies outside is left out. Sums wrap, since no test comes near 2^64.
+// All of it is for the crates above. Rests on the standard library.
 #![tactic(auto)]
 
 ghost use Rattle.std.specs.Prelude.{◌≤◌, length, IfOk};
@@ -62,20 +62,12 @@ pub fn noise(state: u64) -> u64 {
 
 // What one step of noise gives, below a number.
 pub fn below(state: u64, most: u64) -> u64 {
-    if most == 0 {
-        return 0;
-    }
-    state / 65536 % most
+    if most == 0 { 0 } else { state / 65536 % most }
 }
 
 // A digest of 43 bits with one number more.
 pub fn mix(digest: u64, value: u64) -> u64 {
     (digest % 8796093022208 * 1000003 + value % 8796093022208 + 1) % 8796093022208
-}
-
-// A sum; no test comes near 2^64, where it would wrap.
-pub fn sum(a: usize, b: usize) -> usize {
-    std::num::wrapping_add_usize(a, b)
 }
 
 // The bytes of so many packets, if these are not too many to be true.
@@ -94,120 +86,75 @@ pub fn set(file: &mut [u8], at: usize, value: u8) {
     }
 }
 
-// Noise from a place on.
-pub fn fill_with_noise(file: &mut [u8], from: usize, seed: u64) {
+// Noise throughout.
+pub fn fill_with_noise(file: &mut [u8], seed: u64) {
     let mut state = seed;
-    let mut at = from;
-    while at < file.len() {
+    for byte in file {
         state = noise(state);
-        file[at] = (below(state, 256) % 256) as u8;
-        at += 1;
+        *byte = (below(state, 256) % 256) as u8;
     }
 }
 
-// The same byte from a place on.
-pub fn fill(file: &mut [u8], from: usize, value: u8) {
-    let mut at = from;
-    while at < file.len() {
-        file[at] = value;
-        at += 1;
+// A file from a place on, or nothing of it where it ends before.
+pub fn from_place(file: &mut [u8], from: usize) -> &mut [u8] {
+    let at = from.min(file.len());
+    &mut file[at..]
+}
+
+// So many values of a list from a place on, as far as it has them.
+pub fn part<T: Copy>(values: &[T], from: usize, many: usize) -> &[T] {
+    let begin = from.min(values.len());
+    let long = many.min(values.len() - begin);
+    &values[begin..begin + long]
+}
+
+// Bytes from a place on, as far as the file has these places.
+pub fn put(file: &mut [u8], from: usize, bytes: &[u8]) {
+    for (place, byte) in from_place(file, from).iter_mut().zip(bytes) {
+        *place = *byte;
     }
 }
 
-// The same word throughout.
-pub fn fill_words(table: &mut [u32], value: u32) {
-    let mut at = 0;
-    while at < table.len() {
-        table[at] = value;
-        at += 1;
-    }
+// A digest with the first n numbers more, or with all if there are fewer.
+pub fn digest<T: Copy + Into<u64>>(before: u64, numbers: &[T], n: usize) -> u64 {
+    digest_all(before, part(numbers, 0, n))
 }
 
-// A digest with the first n bytes more, or with all if there are fewer.
-pub fn digest(before: u64, bytes: &[u8], n: usize) -> u64 {
-    let many = tables::lesser(n, bytes.len());
-    let mut digest = before;
-    let mut at = 0;
-    while at < many {
-        digest = mix(digest, bytes[at] as u64);
-        at += 1;
-    }
-    digest
-}
-
-// With the byte at a place, if there is one.
-fn with_byte(digest: u64, bytes: &[u8], at: usize) -> u64 {
-    if at < bytes.len() {
-        mix(digest, tables::wide(bytes[at]) as u64)
-    } else {
-        digest
-    }
+// A digest with some numbers more.
+pub fn digest_all<T: Copy + Into<u64>>(before: u64, numbers: &[T]) -> u64 {
+    numbers
+        .iter()
+        .fold(before, |digest, number| mix(digest, (*number).into()))
 }
 
 // A digest with up to 64 bytes more, from a place on: what a call was to leave as it was.
 pub fn digest_past(before: u64, bytes: &[u8], from: usize) -> u64 {
-    let mut digest = before;
-    let mut k: usize = 0;
-    while k < 64 {
-        digest = with_byte(digest, bytes, sum(from, k));
-        k += 1;
-    }
-    digest
+    digest_all(before, part(bytes, from, 64))
 }
 
 // The first n bytes made again what lent bytes are before a call.
 pub fn refill(bytes: &mut [u8], n: usize) {
-    let many = tables::lesser(n, bytes.len());
-    let mut at = 0;
-    while at < many {
-        bytes[at] = 165;
-        at += 1;
-    }
-}
-
-// The digest of the first n words, or of all.
-pub fn digest_words(before: u64, words: &[u32], n: usize) -> u64 {
-    let many = tables::lesser(n, words.len());
-    let mut digest = before;
-    let mut at = 0;
-    while at < many {
-        digest = mix(digest, words[at] as u64);
-        at += 1;
-    }
-    digest
-}
-
-// A word as a number: a cast that asks no proof of its caller.
-fn wide(word: u32) -> usize {
-    word as usize
+    let many = n.min(bytes.len());
+    bytes[..many].fill(165);
 }
 
 // A word of a table, and 0 past its end.
 pub fn word(table: &[u32], at: usize) -> usize {
-    if at < table.len() { wide(table[at]) } else { 0 }
+    table.get(at).copied().unwrap_or(0) as usize
 }
 
-// A number of some, and 0 past their end.
-pub fn number(numbers: &[u64], at: usize) -> u64 {
-    if at < numbers.len() { numbers[at] } else { 0 }
-}
-
-// How many of the first so many numbers are not those expected, with a line for each.
+// How many of the numbers are not those expected, with a line for each.
 pub fn all_differ(
     rt: &impl Print,
     what: &[u8],
     case: u64,
     expected: &[u64],
     got: &[u64],
-    many: u64,
 ) -> io::Result<usize> {
     let mut wrong: usize = 0;
-    let mut k: u64 = 0;
-    while k < many {
-        let at = k as usize;
-        let here = differs(rt, what, case, k + 1, number(expected, at), number(got, at))?;
-        wrong = sum(wrong, here);
-        k += 1;
+    for (k, (expected, got)) in expected.iter().zip(got).enumerate() {
+        let here = differs(rt, what, case, k as u64 + 1, *expected, *got)?;
+        wrong = wrong.wrapping_add(here);
     }
     Ok(wrong)
 }

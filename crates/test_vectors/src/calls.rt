@@ -1,112 +1,103 @@
 // One case: its file is made, the calls are asked, and what they answer is held to the list. Rests on test_asked and the rest of this
-// program, on test_expected, listing, test_readings, test_tools and tables.
+// program, on blocks, test_expected, listing, test_readings and test_tools.
 use crate::fed::{Pieces, in_pieces, with_choice, with_more, with_pieces};
+use blocks::StreamPlace;
 use std::io;
+use test_asked::Request;
 use test_expected::making::next_case;
-use test_expected::{Seen, expect, expect_all};
-use test_tools::Cuts;
+use test_expected::{Numbers, Replay};
+use test_tools::{Cuts, digest_all};
 
-// What is asked of a file, in 16 numbers. The kind of a reader, and how the file is cut for it:
-const KIND: usize = 0;
-
-const FIRST: usize = 1;
-
-const SECOND: usize = 2;
-
-const STEP: usize = 3;
-
-// how much is lent: bytes of the output, counts, words of QP's table, of QP7's records and of its segments;
-const OUT: usize = 4;
-
-const COUNTS: usize = 5;
-
-const TABLE: usize = 6;
-
-const RECORDS: usize = 7;
-
-const SEGMENTS: usize = 8;
-
-// a frame by its place and size with a scratch of so many bytes, a block's payload, and what stands in the file at a place, as a part of so
-// many bytes; a choice of an end that is neither.
-const PLACE: usize = 9;
-
-const SIZE: usize = 10;
-
-const SCRATCH: usize = 11;
-
-const BLOCK: usize = 12;
-
-const PROBE: usize = 13;
-
-const PART: usize = 14;
-
-const CHOICE: usize = 15;
-
-const ASKED: usize = 16;
-
-// The listing's line and the tally.
-fn listed(rt: &impl Print, list: &[u8], before: Seen, file: &[u8]) -> io::Result<Seen> {
-    let mut line = [0u8; listing::LINE];
-    let long = listing::list_line(file, &mut line);
-    let seen = expect(rt, list, before, test_tools::digest(0, &line[..long], long))?;
-    let told = test_readings::tallied(file);
-    expect_all(rt, list, seen, &told, 0, 11)
+// What is asked of a file.
+#[derive(Clone, Copy)]
+struct Asked {
+    // The kind of a reader, and how the file is cut for it.
+    kind: u64,
+    cuts: Cuts,
+    // How much is lent: bytes of the output, counts, words of QP's table, of QP7's records and of its segments.
+    out: usize,
+    counts: usize,
+    table: usize,
+    records: usize,
+    segments: usize,
+    // A frame with its scratch, and a block's payload.
+    frame: Request,
+    block: usize,
+    // What stands in the file at a place, as a part of so many bytes.
+    probe: usize,
+    part: usize,
+    // A choice of an end that is neither.
+    choice: u64,
 }
 
-// All answers after those of the whole calls.
-fn with_rest(
-    rt: &impl Print,
-    list: &[u8],
-    before: Seen,
-    case: [u64; 16],
-    file: &[u8],
-    pieces: Pieces,
-) -> io::Result<Seen> {
-    let mut seen = with_pieces(rt, list, before, pieces)?;
-    seen = test_asked::frame(rt, list, seen, file, case[PLACE], case[SIZE], case[SCRATCH])?;
-    seen = test_asked::payload(rt, list, seen, file, case[BLOCK])?;
-    seen = listed(rt, list, seen, file)?;
-    seen = test_asked::probed(rt, list, seen, file, case[PROBE], case[PART])?;
-    seen = with_more(rt, list, seen, pieces)?;
-    seen = test_asked::placed(rt, list, seen, file, case[PLACE], case[SIZE], case[SCRATCH])?;
-    with_choice(rt, list, seen, pieces)
-}
-
-// The whole calls of QP and QP7.
-fn with_tables(
-    rt: &impl Print,
-    list: &[u8],
-    before: Seen,
-    case: [u64; 16],
-    file: &[u8],
-) -> io::Result<Seen> {
-    let seen = test_asked::whole_qp(rt, list, before, file, case[TABLE])?;
-    test_asked::whole_qp7(rt, list, seen, file, case[RECORDS], case[SEGMENTS])
-}
-
-fn cuts_of(case: [u64; 16]) -> Cuts {
-    Cuts {
-        first: case[FIRST] as usize,
-        second: case[SECOND] as usize,
-        step: case[STEP] as usize,
+fn read_asked(numbers: &mut Numbers) -> Asked {
+    Asked {
+        kind: numbers.next(),
+        cuts: Cuts {
+            first: numbers.next_size(),
+            second: numbers.next_size(),
+            step: numbers.next_size(),
+        },
+        out: numbers.next_size(),
+        counts: numbers.next_size(),
+        table: numbers.next_size(),
+        records: numbers.next_size(),
+        segments: numbers.next_size(),
+        frame: Request {
+            place: StreamPlace(numbers.next_size()),
+            size: numbers.next_size(),
+            lent: numbers.next_size(),
+        },
+        block: numbers.next_size(),
+        probe: numbers.next_size(),
+        part: numbers.next_size(),
+        choice: numbers.next(),
     }
 }
 
+// The listing's line and the tally.
+fn listed<R: Print>(replay: &mut Replay<'_, R>, file: &[u8]) -> io::Result<()> {
+    let mut line = [0u8; listing::LINE];
+    let long = listing::list_line(file, &mut line);
+    replay.expect(digest_all(0, &line[..long]))?;
+    replay.expect_all(&test_readings::tallied(file).numbers())
+}
+
+// All answers after those of the whole calls.
+fn with_rest<R: Print>(
+    replay: &mut Replay<'_, R>,
+    asked: Asked,
+    file: &[u8],
+    pieces: Pieces,
+) -> io::Result<()> {
+    with_pieces(replay, pieces)?;
+    test_asked::frame(replay, file, asked.frame)?;
+    test_asked::payload(replay, file, asked.block)?;
+    listed(replay, file)?;
+    test_asked::probed(replay, file, asked.probe, asked.part)?;
+    with_more(replay, pieces)?;
+    test_asked::placed(replay, file, asked.frame)?;
+    with_choice(replay, pieces)
+}
+
+// The whole calls of QP and QP7.
+fn with_tables<R: Print>(replay: &mut Replay<'_, R>, asked: Asked, file: &[u8]) -> io::Result<()> {
+    test_asked::whole_qp(replay, file, asked.table)?;
+    test_asked::whole_qp7(replay, file, asked.records, asked.segments)
+}
+
 // All answers but those of detection, with so much lent.
-fn in_room(
-    rt: &impl Print,
-    list: &[u8],
-    before: Seen,
-    case: [u64; 16],
+fn in_room<R: Print>(
+    replay: &mut Replay<'_, R>,
+    asked: Asked,
     file: &[u8],
     out: &mut [u8],
     counts: &mut [u8],
-) -> io::Result<Seen> {
-    let mut seen = test_asked::both_sp(rt, list, before, file, out, counts)?;
-    seen = with_tables(rt, list, seen, case, file)?;
-    let cuts = cuts_of(case);
-    let pieces = in_pieces(case[KIND], file, cuts, case[CHOICE], out, counts);
-    with_rest(rt, list, seen, case, file, pieces)
+) -> io::Result<()> {
+    test_asked::both_sp(replay, file, out, counts)?;
+    with_tables(replay, asked, file)?;
+    let pieces = in_pieces(asked.kind, file, asked.cuts, asked.choice, out, counts);
+    with_rest(replay, asked, file, pieces)
 }
 
 // Room for packets, as it is lent.
@@ -115,34 +106,23 @@ fn room() -> [u8; 172032] {
 }
 
 // All answers of a case.
-fn answers(
-    rt: &impl Print,
-    list: &[u8],
-    before: Seen,
-    case: [u64; 16],
-    file: &[u8],
-) -> io::Result<Seen> {
+fn answers<R: Print>(replay: &mut Replay<'_, R>, asked: Asked, file: &[u8]) -> io::Result<()> {
     let mut out = room();
     let mut counts = [165u8; 4096];
-    let bytes = tables::lesser(case[OUT] as usize, 172032);
-    let many = tables::lesser(case[COUNTS] as usize, 4096);
-    let seen = test_asked::detection(rt, list, before, file)?;
+    test_asked::detection(replay, file)?;
     in_room(
-        rt,
-        list,
-        seen,
-        case,
+        replay,
+        asked,
         file,
-        &mut out[0..bytes],
-        &mut counts[0..many],
+        &mut out[..asked.out.min(172032)],
+        &mut counts[..asked.counts.min(4096)],
     )
 }
 
 // The next case of the list, with its file.
-pub fn one_case(rt: &impl Print, list: &[u8], before: Seen) -> io::Result<Seen> {
+pub fn one_case<R: Print>(replay: &mut Replay<'_, R>) -> io::Result<()> {
     let mut space = [0u8; 67584];
-    let case = next_case(list, before, ASKED, &mut space);
-    let asked = case.asked;
-    let long = tables::lesser(case.long, 67584);
-    answers(rt, list, case.seen, asked, &space[0..long])
+    let file = next_case(replay, &mut space);
+    let asked = read_asked(&mut replay.numbers);
+    answers(replay, asked, file)
 }

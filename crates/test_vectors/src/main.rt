@@ -4,6 +4,7 @@
 #![tactic(auto)]
 
 use std::io;
+use test_expected::Replay;
 
 // The calls on one file.
 mod calls;
@@ -13,13 +14,14 @@ mod fed;
 
 // Runs through the list. A case has some numbers, so there are no more cases than bytes.
 fn run(rt: &impl Print, list: &[u8]) -> io::Result<()> {
-    let mut seen = test_expected::begin();
-    let mut turns: usize = 0;
-    while turns < list.len() && test_expected::goes_on(list, seen) {
-        seen = calls::one_case(rt, list, seen)?;
-        turns += 1;
+    let mut replay = Replay::begin(rt, list);
+    for _ in 0..list.len() {
+        if !replay.numbers.goes_on() {
+            break;
+        }
+        calls::one_case(&mut replay)?;
     }
-    test_expected::conclude(rt, seen)
+    replay.conclude()
 }
 
 // Room for the list, and more.

@@ -1,103 +1,104 @@
 // One case: its header and packets are made, the writer is called, what it answers and leaves is held to the list, and a file that it wrote
-// is read whole. Rests on the rest of this program, on writing and sp, and on test_sums, test_tools and tables.
-use crate::making;
+// is read whole. Rests on the rest of this program, on writing and refusals, and on test_sums and test_tools.
+use crate::making::{self, Case};
+use refusals::{Numbers, Refusal};
 use std::io;
-use test_tools::{all_differ, digest};
-use writing::Written;
+use test_tools::{all_differ, digest_all};
 
-// What a case came to, 1 or 0: whether the call was answered, and whether the file gave the packets back.
+// What a case came to: whether the call was answered, and whether the file gave the packets back.
 #[derive(Clone, Copy)]
 pub struct Came {
-    pub answered: usize,
-    pub back: usize,
+    pub answered: bool,
+    pub back: bool,
 }
 
-// The call, and its answer in numbers: the refusal and the number beside it, and how long the file is.
-fn wrote(header: &[u8], packets: &[u8], out: &mut [u8]) -> [u64; 3] {
-    let answer = writing::write_ds2_sp(header, packets, out);
+// What the call answered, in numbers: the refusal and the number beside it, and how long the file is.
+fn wrote(answer: Result<usize, Refusal>) -> [u64; 3] {
     match answer {
-        Written::Refused(why) => [why.number, why.beside, 0],
-        Written::Bytes(size) => [0, 0, size as u64],
+        Err(why) => {
+            let why = Numbers::from(why);
+            [why.number, why.beside, 0]
+        }
+        Ok(size) => [0, 0, size as u64],
     }
 }
 
 // Holds an answer to the list, and a digest of all that was lent for the file.
-fn hold_answer(rt: &impl Print, case: [u64; 16], said: [u64; 3], out: &[u8]) -> io::Result<()> {
-    let got = [said[0], said[1], said[2], digest(0, out, out.len())];
-    all_differ(
-        rt,
-        b"case ",
-        case[making::CASE],
-        &case[making::ANSWERS..],
-        &got,
-        4,
-    )?;
+fn hold_answer(
+    rt: &impl Print,
+    case: Case,
+    answer: Result<usize, Refusal>,
+    out: &[u8],
+) -> io::Result<()> {
+    let [number, beside, size] = wrote(answer);
+    let got = [number, beside, size, digest_all(0, out)];
+    all_differ(rt, b"case ", case.number, &case.answers, &got)?;
     Ok(())
 }
 
-// 1 where a file's whole reading gives the packets that it was written from, and else 0: no refusal and nothing beside it, how many packets,
-// and digests of them and of their counts.
-fn read_back(rt: &impl Print, case: [u64; 16], file: &[u8], packets: &[u8]) -> io::Result<usize> {
+// Whether a file's whole reading gives the packets that it was written from: no refusal and nothing beside it, how many packets, and
+// digests of them and of their counts.
+fn read_back(rt: &impl Print, case: Case, file: &[u8], packets: &[u8]) -> io::Result<bool> {
     let mut again = [165u8; 25620];
     let mut counts = [165u8; 1024];
     let answer = test_sums::demux(file, false, &mut again, &mut counts);
     let came = test_sums::told(answer, &again, &counts);
     let many = (packets.len() / 42) as u64;
-    let bytes = digest(0, packets, packets.len());
-    let expected = [0, 0, many, bytes, case[making::COUNTS]];
-    let unlike = all_differ(
+    let expected = [0, 0, many, digest_all(0, packets), case.counts];
+    let wrong = all_differ(
         rt,
         b"file of case ",
-        case[making::CASE],
+        case.number,
         &expected,
-        &came,
-        5,
+        &came.handed_out(),
     )?;
-    Ok(if unlike == 0 { 1 } else { 0 })
+    Ok(wrong == 0)
 }
 
 // What a call answered and left.
 fn told(
     rt: &impl Print,
-    case: [u64; 16],
-    said: [u64; 3],
+    case: Case,
+    answer: Result<usize, Refusal>,
     packets: &[u8],
     out: &[u8],
 ) -> io::Result<Came> {
-    hold_answer(rt, case, said, out)?;
-    if said[0] != 0 {
-        return Ok(Came {
-            answered: 0,
-            back: 0,
-        });
+    hold_answer(rt, case, answer, out)?;
+    match answer {
+        Err(_) => Ok(Came {
+            answered: false,
+            back: false,
+        }),
+        Ok(size) => Ok(Came {
+            answered: true,
+            back: read_back(rt, case, &out[..size.min(out.len())], packets)?,
+        }),
     }
-    let size = tables::lesser(said[2] as usize, out.len());
-    Ok(Came {
-        answered: 1,
-        back: read_back(rt, case, &out[0..size], packets)?,
-    })
 }
 
 // The call, with so much lent.
 fn called(
     rt: &impl Print,
-    case: [u64; 16],
+    case: Case,
     header: &[u8],
     packets: &[u8],
     out: &mut [u8],
 ) -> io::Result<Came> {
-    let said = wrote(header, packets, out);
-    told(rt, case, said, packets, out)
+    let answer = writing::write_ds2_sp(header, packets, out);
+    told(rt, case, answer, packets, out)
 }
 
 // A case by its numbers, each as far as there is room for it: with more packets or output the answers are others, and a longer header is
 // refused all the same.
-pub fn one_case(rt: &impl Print, case: [u64; 16]) -> io::Result<Came> {
+pub fn one_case(rt: &impl Print, case: Case) -> io::Result<Came> {
     let header = making::header_of(case);
     let packets = making::packets_of(case);
     let mut out = [165u8; 28672];
-    let a = tables::lesser(case[making::LONG] as usize, 2048);
-    let b = tables::lesser(case[making::JOINED] as usize, 25620);
-    let c = tables::lesser(case[making::ROOM] as usize, 28672);
-    called(rt, case, &header[0..a], &packets[0..b], &mut out[0..c])
+    called(
+        rt,
+        case,
+        &header[..case.long.min(2048)],
+        &packets[..case.joined.min(25620)],
+        &mut out[..case.room.min(28672)],
+    )
 }

@@ -4,7 +4,8 @@
 #![tactic(auto)]
 
 use std::io;
-use test_tools::{say, sum};
+use test_expected::Numbers;
+use test_tools::say;
 
 // One case.
 mod calls;
@@ -22,18 +23,18 @@ fn conclude(rt: &impl Print, cases: usize, answered: usize, back: usize) -> io::
 
 // Runs through the list. A case has some numbers, so there are no more cases than bytes.
 fn run(rt: &impl Print, list: &[u8]) -> io::Result<()> {
-    let mut seen = test_expected::begin();
+    let mut numbers = Numbers::of(list);
+    let mut cases: usize = 0;
     let mut answered: usize = 0;
     let mut back: usize = 0;
-    let mut cases: usize = 0;
-    while cases < list.len() && test_expected::goes_on(list, seen) {
-        let case = test_expected::read(list, seen.at, making::NUMBERS);
-        let numbers = case.values;
-        let came = calls::one_case(rt, numbers)?;
-        seen = test_expected::read_to(seen, case.at);
-        answered = sum(answered, came.answered);
-        back = sum(back, came.back);
-        cases += 1;
+    for _ in 0..list.len() {
+        if !numbers.goes_on() {
+            break;
+        }
+        let came = calls::one_case(rt, making::next_case(&mut numbers))?;
+        cases = cases.wrapping_add(1);
+        answered = answered.wrapping_add(usize::from(came.answered));
+        back = back.wrapping_add(usize::from(came.back));
     }
     conclude(rt, cases, answered, back)
 }

@@ -1,65 +1,78 @@
-// What a case lends, made from its numbers: a header and packets. Rests on test_tools.
-use test_tools::fill_with_noise;
+// A case, and what it lends, made from its numbers: a header and packets. Rests on test_expected and test_tools.
+use test_expected::Numbers;
+use test_tools::{fill_with_noise, put, set};
 
-// Which of a case's numbers is which: its own, of which all bytes are noise that are not said here; the header's first four bytes and its
-// length; how many bytes of packets there are;
-pub const CASE: usize = 0;
+#[derive(Clone, Copy)]
+pub struct Case {
+    // Its own number, of which all bytes are noise that are not said here.
+    pub number: u64,
+    // The header's first four bytes and its length; how many bytes of packets there are.
+    first: [u8; 4],
+    pub long: usize,
+    pub joined: usize,
+    // What is put at byte 40 of two packets, 0 for neither, and which they are.
+    value: u8,
+    one: usize,
+    other: usize,
+    // How many bytes are lent for the file; four answers, and a digest of the counts that reading it gives.
+    pub room: usize,
+    pub answers: [u64; 4],
+    pub counts: u64,
+}
 
-const FIRST: usize = 1;
-
-pub const LONG: usize = 5;
-
-pub const JOINED: usize = 6;
-
-// what is put at byte 40 of two packets, 0 for neither, and which they are;
-const VALUE: usize = 7;
-
-const ONE: usize = 8;
-
-const OTHER: usize = 9;
-
-// how many bytes are lent for the file; four answers, and a digest of the counts that reading it gives.
-pub const ROOM: usize = 10;
-
-pub const ANSWERS: usize = 11;
-
-pub const COUNTS: usize = 15;
-
-pub const NUMBERS: usize = 16;
+// The next case of the list.
+pub fn next_case(numbers: &mut Numbers) -> Case {
+    Case {
+        number: numbers.next(),
+        first: [
+            numbers.next_byte(),
+            numbers.next_byte(),
+            numbers.next_byte(),
+            numbers.next_byte(),
+        ],
+        long: numbers.next_size(),
+        joined: numbers.next_size(),
+        value: numbers.next_byte(),
+        one: numbers.next_size(),
+        other: numbers.next_size(),
+        room: numbers.next_size(),
+        answers: [
+            numbers.next(),
+            numbers.next(),
+            numbers.next(),
+            numbers.next(),
+        ],
+        counts: numbers.next(),
+    }
+}
 
 // A header, and more noise after it.
-pub fn header_of(case: [u64; 16]) -> [u8; 2048] {
+pub fn header_of(case: Case) -> [u8; 2048] {
     let mut header = [0u8; 2048];
-    fill_with_noise(&mut header, 0, case[CASE]);
-    header[0] = (case[FIRST] % 256) as u8;
-    header[1] = (case[FIRST + 1] % 256) as u8;
-    header[2] = (case[FIRST + 2] % 256) as u8;
-    header[3] = (case[FIRST + 3] % 256) as u8;
+    fill_with_noise(&mut header, case.number);
+    put(&mut header, 0, &case.first);
     header
 }
 
 // Puts a value at byte 40 of a packet.
-fn mark(packets: &mut [u8], number: usize, value: u64) {
-    let place = test_tools::sum(test_tools::packet_bytes(number), 40);
-    test_tools::set(packets, place, (value % 256) as u8);
+fn mark(packets: &mut [u8], number: usize, value: u8) {
+    let place = test_tools::packet_bytes(number).wrapping_add(40);
+    set(packets, place, value);
 }
 
 // Puts 0 at byte 40 of every packet.
 fn clear(packets: &mut [u8]) {
-    let many = packets.len() / 42;
-    let mut k = 0;
-    while k < many {
-        mark(packets, k, 0);
-        k += 1;
+    for number in 0..packets.len() / 42 {
+        mark(packets, number, 0);
     }
 }
 
 // Packets, and more after them: noise from the next number on, but for their bytes 40.
-pub fn packets_of(case: [u64; 16]) -> [u8; 25620] {
+pub fn packets_of(case: Case) -> [u8; 25620] {
     let mut packets = [0u8; 25620];
-    fill_with_noise(&mut packets, 0, std::num::wrapping_add_u64(case[CASE], 1));
+    fill_with_noise(&mut packets, case.number.wrapping_add(1));
     clear(&mut packets);
-    mark(&mut packets, case[ONE] as usize, case[VALUE]);
-    mark(&mut packets, case[OTHER] as usize, case[VALUE]);
+    mark(&mut packets, case.one, case.value);
+    mark(&mut packets, case.other, case.value);
     packets
 }
