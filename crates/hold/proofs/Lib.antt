@@ -5,7 +5,6 @@ pub mod Carries
 pub mod Longer
 pub mod Moving
 pub mod Windows
-pub mod Handed
 pub mod Through
 pub mod Headers
 pub mod Leaving

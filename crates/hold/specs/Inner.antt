@@ -30,7 +30,7 @@ pub record Holds (s : ℕ → ℕ) (long base : ℕ) (hold : List ℕ) : Type 0 
   pub within : long ≤ base + 12288
 
 -- a source has, from a place on, the payload that a stream s has from a base on
-abbrev pub Bears : List ℕ → ℕ → ℕ → (ℕ → ℕ) → Type 0
+unfoldable pub Bears : List ℕ → ℕ → ℕ → (ℕ → ℕ) → Type 0
 Bears source at base s = (i : ℕ) → i < 506 → s (base + i) ≡ get_or source (at + i) 0
 
 -- the first `by` of the bytes that are held were dropped: if there are zeros past those held, every byte moves up by so many

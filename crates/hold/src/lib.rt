@@ -1,5 +1,5 @@
 // What is held of a recording between its blocks: packets from the hold, which has the stream's bytes from a base on, or from a payload
-// where it stands. Rests on packets, for a packet from bytes that lie together, on sp, for runs and where a packet is put, on blocks and
+// where it stands. Rests on packets, for a packet from bytes that lie together, on sp, for runs and how one is handed out, on blocks and
 // on tables. What is public here is for the crates above.
 #![tactic(auto)]
 
@@ -97,7 +97,7 @@ pub fn held_packet(
     }
 }
 
-// Hands out the packets of a run after `number` others, and gives back what is carried on.
+// Hands out the packets of a run from the hold after `number` others, and gives back what is carried on.
 pub fn write_held(
     hold: &[u8; 12288],
     base: StreamPlace,
@@ -113,17 +113,14 @@ pub fn write_held(
     requires room { (42 * (number + run.count) ≤ length out.old) × (number + run.count ≤ length counts.old) }
     ensures { (s : ℕ → ℕ) → Holds s long base.0 hold.now → RunWritten s long (run_begin carry run) number run.count out.old out.new counts.old counts.new result }
 {
-    let mut place = run.start;
-    let mut swap = run.swap;
-    let mut carried = carry;
-    for n in 0..run.count {
-        let packet = held_packet(hold, base, long, place, swap, carried);
-        place = packet.next;
-        carried = packet.carry;
-        swap = !swap;
-        sp::put(packet, number + n, out, counts);
-    }
-    carried
+    sp::hand_out_run(
+        |place, swap, carried| held_packet(hold, base, long, place, swap, carried),
+        run,
+        carry,
+        number,
+        out,
+        counts,
+    )
 }
 
 // The packet that a read at q gives, which lies in one payload: 506 bytes of a source from a place on, the stream's from a base on.
@@ -164,15 +161,12 @@ pub fn write_through(
     requires room { (42 * (number + run.count) ≤ length out.old) × (number + run.count ≤ length counts.old) }
     ensures { (s : ℕ → ℕ) → Bears source.now at base.0 s → RunWritten s (base.0 + 506) (run_begin carry run) number run.count out.old out.new counts.old counts.new result }
 {
-    let mut place = run.start;
-    let mut swap = run.swap;
-    let mut carried = carry;
-    for n in 0..run.count {
-        let packet = source_packet(source, at, base, place, swap, carried);
-        place = packet.next;
-        carried = packet.carry;
-        swap = !swap;
-        sp::put(packet, number + n, out, counts);
-    }
-    carried
+    sp::hand_out_run(
+        |place, swap, carried| source_packet(source, at, base, place, swap, carried),
+        run,
+        carry,
+        number,
+        out,
+        counts,
+    )
 }

@@ -121,6 +121,7 @@ module _ {b number : ℕ} {hold waiting : List ℕ} {was : Standing} {source : L
       → RunWritten s (was.base.0 + 506) (run_begin was.carry run) number run.count out out' counts counts' carry) where
     -- the recording's stream has the block's payload
     bears : Bears source (at + 6) was.base.0 (stream_at g.f g.a (b + 1))
+    unfolding Bears
     bears i h =
         let place : was.base.0 + i ≡ 506 * b + i = omega arith in
         ap (stream_at g.f g.a (b + 1)) place ∙ sym (payload_is g.f g.a b source at g.block_is i h)

@@ -30,7 +30,7 @@ joined_in s w n i h =
     let byte : (42 * n + i) % 42 ≡ i = omega arith in
     rw (number, byte)
 
-reach_none : (swap : Bool) → reach swap 0 ≡ 0
+pub reach_none : (swap : Bool) → reach swap 0 ≡ 0
 reach_none true = refl
 reach_none false = refl
 

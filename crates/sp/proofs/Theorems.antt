@@ -45,7 +45,7 @@ use Rattle.sp.proofs.demux_dss.Kinds as dss
 use Rattle.sp.proofs.demux_dss.Reads as dss-reads
 use Rattle.sp.proofs.demux_ds2.Kinds as ds2
 use Rattle.sp.proofs.demux_ds2.Reads as ds2-reads
-use Rattle.std.specs.Prelude.{Result, Ok, Err}
+use Rattle.std.specs.Prelude.{Result}
 use Rattle.refusals.specs.declared.Refusal.{Refusal}
 
 module _ (reading : Said Reading) (out out' counts counts' : List ℕ) (answer : Result ℕ Refusal) (d : Demuxes reading out out' counts counts' answer) where

@@ -1,25 +1,26 @@
 -- What stands in the lent buffers, packet by packet in a run and run by run in a reading.
 -- Assumes nothing.
 use Prim.Native.Nat.{ℕ, ◌+◌, ◌*◌, ◌/◌, ◌%◌, ◌≤◌, ◌<◌}
-use mathlib.Core.Path.{◌≡◌, sym, ap, ◌∙◌, subst}
+use mathlib.Core.Path.{◌≡◌, refl, sym, ap, ◌∙◌, subst}
 use mathlib.Core.List.{List, [], ◌∷◌, ◌++◌}
-use mathlib.Core.Bool.{not}
+use mathlib.Core.Bool.{Bool, not}
+use native.Mathlib.Numerals.{add-one}
 use native.Mathlib.Omega.{arith}
 use lib.ListN.{get_or}
+use Rattle.blocks.specs.declared.StreamPlace.{StreamPlace}
 use Rattle.tables.specs.Lent.{Leaves}
 use Rattle.tables.proofs.Table.{table_at}
 use Rattle.tables.proofs.Lent.{leaves_none, leaves_join, leaves_as, leaves_to}
 use Rattle.packets.specs.declared.Packet.{Packet}
-use Rattle.packets.specs.Packet.{packet_byte, from, IsPacket}
-use Rattle.packets.specs.Walk.{Walk, step, steps, byte_of, count_at}
+use Rattle.packets.specs.Packet.{read_size, packet_byte, from, IsPacket}
+use Rattle.packets.specs.Walk.{Walk, step, steps, byte_of, count_at, reach, parity}
 use Rattle.packets.specs.Inner.{joined_at}
-use Rattle.packets.proofs.Packets.{read_most}
-use Rattle.packets.proofs.Walk.{steps_none, steps_more, joined_is, joined_in}
+use Rattle.packets.proofs.Walk.{steps_none, steps_more, steps_place, steps_swap, joined_is, joined_in, parity_flips, reach_none, reach_more}
 use Rattle.sp.specs.declared.Run.{Run}
 use Rattle.sp.specs.Runs.{run_begin, packets_in, stands_at, carry_past}
 use Rattle.sp.specs.Readings.{Reading, total, joined_byte_at, file_count_at}
 use Rattle.sp.specs.Written.{Written}
-use Rattle.sp.specs.Inner.{RunWritten}
+use Rattle.sp.specs.Inner.{place_of, MayRead, EachRead, Goes, RunWritten}
 use Rattle.sp.proofs.Runs.{packets_none, packets_of, packets_joined, carry_none, stands_before, stands_after, stands_first}
 
 module _ (s : ℕ → ℕ) (long : ℕ) (w : Walk) (base : ℕ) (out counts : List ℕ) where
@@ -65,35 +66,74 @@ module _ (s : ℕ → ℕ) (long : ℕ) (w : Walk) (base : ℕ) (out counts : Li
           let number : n ≡ n + i = omega arith in
           is.count_is ∙ ap (count_at long) stands ∙ ap (λ (k : ℕ). count_at long (steps s w k)) number
 
-  -- after n of the run's packets: where the walk stands, how near it still is, and what is written
-  pub record Running (count n : ℕ) (v : Walk) (out' counts' : List ℕ) : Type 0 where
-    pub within : n ≤ count
-    pub near : v.place ≤ w.place + 42 * n
-    pub stands : v ≡ steps s w n
-    pub written : RunWritten s long w base n out out' counts counts' v.carry
+-- a run that is handed out packet by packet, of whose packets all is known by `Gives`
+module _ (Gives : StreamPlace → Bool → ℕ → Packet → Type 0) (run : Run) (carry base : ℕ) (out counts : List ℕ) where
+  -- after n of them: where the next read begins, and what is written for each stream that the packets are of
+  pub record Handing (n : ℕ) (place : StreamPlace) (swap : Bool) (carried : ℕ) (out' counts' : List ℕ) : Type 0 where
+    pub place_is : place ≡ place_of run n
+    pub swap_is : swap ≡ parity run.swap n
+    pub small : carried < 256
+    pub written : (s : ℕ → ℕ) (long : ℕ) → EachRead Gives run (IsPacket s long)
+        → RunWritten s long (run_begin carry run) base n out out' counts counts' carried
 
-  pub run_begins : (count : ℕ) → Running count 0 w out counts
-  run_begins count =
-      record { within = omega arith; near = omega arith; stands = sym (steps_none s w); written = run_none }
-
-  pub run_goes_on : (count n : ℕ) (v : Walk) (p : Packet) (out₁ out₂ counts₁ counts₂ : List ℕ) → n < count → Running count n v out₁ counts₁
-      → IsPacket s long v.swap v.carry v.place p
-      → Leaves out₁ (42 * (base + n)) 42 (λ i. get_or p.bytes i 0) out₂
-      → Leaves counts₁ (base + n) 1 (λ i. p.count) counts₂
-      → Running count (n + 1) (record { place = p.next.0; carry = p.carry; swap = not v.swap }) out₂ counts₂
-  run_goes_on count n v p out₁ out₂ counts₁ counts₂ h r is bytes one =
+  pub handing_begins : carry < 256 → Handing 0 run.start run.swap carry out counts
+  handing_begins small =
       record {
-        within = omega arith;
-        near = omega (arith, r.near, is.next_is, read_most v.swap);
-        stands = rw (steps_more, ← r.stands) (cc (is.next_is, is.carry_is));
-        written = run_more n out₁ out₂ counts₁ counts₂ v.carry v p r.stands r.written is bytes one;
+        place_is =
+            let start : run.start.0 ≡ run.start.0 + reach run.swap 0 = omega (arith, reach_none run.swap) in
+            ap (λ (q : ℕ). record { 0 = q }) start;
+        swap_is = refl;
+        small = small;
+        written = λ s long is. run_none s long (run_begin carry run) base out counts;
       }
 
-  pub run_ends : {count n : ℕ} {v : Walk} {out' counts' : List ℕ} → count ≤ n → Running count n v out' counts'
-      → RunWritten s long w base count out out' counts counts' v.carry
-  run_ends {count} {n} {v} {out'} {counts'} h r =
-      let all : n ≡ count = omega (arith, r.within) in
-      subst (λ (m : ℕ). RunWritten s long w base m out out' counts counts' v.carry) all r.written
+  module _ {n : ℕ} {place : StreamPlace} {swap : Bool} {carried : ℕ} {out₁ counts₁ : List ℕ} (h : n < run.count)
+      (so : Handing n place swap carried out₁ counts₁) where
+    -- what is true of each read of the run is true of the next one
+    pub may_read : (pre : StreamPlace → Bool → ℕ → Type 0) → MayRead pre run → pre place swap carried
+    may_read pre may = rw (so.place_is, so.swap_is) (may n carried h so.small)
+
+    next_read : (Is : Bool → ℕ → ℕ → Packet → Type 0) → EachRead Gives run Is → (p : Packet) → Gives place swap carried p
+        → Is swap carried place.0 p
+    next_read Is each p given =
+        rw (so.place_is, so.swap_is) (each n carried p h so.small (rw (so.place_is, so.swap_is) at given))
+
+    pub handing_goes_on : (p : Packet) (out₂ counts₂ : List ℕ) → EachRead Gives run Goes → Gives place swap carried p → p.carry < 256
+        → Leaves out₁ (42 * (base + n)) 42 (λ i. get_or p.bytes i 0) out₂
+        → Leaves counts₁ (base + n) 1 (λ i. p.count) counts₂
+        → Handing (n + 1) p.next (not swap) p.carry out₂ counts₂
+    handing_goes_on p out₂ counts₂ goes given fits bytes one =
+        record {
+          place_is = ap (λ (q : ℕ). record { 0 = q }) next;
+          swap_is = ap not so.swap_is ∙ sym (parity_flips run.swap n) ∙ ap (parity run.swap) (sym (add-one n));
+          small = fits;
+          written =
+              λ s long is.
+              let w = run_begin carry run in
+              let r = so.written s long is in
+              let stands : record { place = place.0; carry = carried; swap = swap } ≡ steps s w n =
+              let place_is : place.0 ≡ (steps s w n).place = ap (λ (q : StreamPlace). q.0) so.place_is ∙ sym (steps_place s w n) in
+              rw (place_is, so.swap_is ∙ sym (steps_swap s w n), r.carry_is) in
+              run_more s long w base out counts n out₁ out₂ counts₁ counts₂ carried _ p stands r (next_read (IsPacket s long) is p given)
+              bytes one;
+        }
+      where
+        next : p.next.0 ≡ run.start.0 + reach run.swap (n + 1)
+        next =
+            omega (
+              arith,
+              next_read Goes goes p given,
+              ap (λ (q : StreamPlace). q.0) so.place_is,
+              ap read_size so.swap_is,
+              reach_more run.swap n,
+              ap (reach run.swap) (add-one n),
+            )
+
+  pub handing_ends : {n : ℕ} {place : StreamPlace} {swap : Bool} {carried : ℕ} {out' counts' : List ℕ} → n ≡ run.count
+      → Handing n place swap carried out' counts' → (s : ℕ → ℕ) (long : ℕ) → EachRead Gives run (IsPacket s long)
+      → RunWritten s long (run_begin carry run) base run.count out out' counts counts' carried
+  handing_ends {n} {place} {swap} {carried} {out'} {counts'} all so s long is =
+      subst (λ (m : ℕ). RunWritten s long (run_begin carry run) base m out out' counts counts' carried) all (so.written s long is)
 
 module _ (s : ℕ → ℕ) (long at_first : ℕ) (out counts : List ℕ) where
   abbrev pub by : List Run → Reading

@@ -11,7 +11,7 @@ use Rattle.sp.specs.Readings.{Reading, total, packet_at}
 use Rattle.sp.specs.Outcome.{room_in, in_room, answered, Demuxes}
 use Rattle.sp.specs.Written.{Written}
 use Rattle.sp.proofs.Theorems.{accepted_writes, packets_stand, room_decides}
-use Rattle.std.specs.Prelude.{Result, Ok, Err}
+use Rattle.std.specs.Prelude.{Result}
 use Rattle.refusals.specs.declared.Refusal.{Refusal}
 
 -- of a file that is taken, with room for all its packets, a call that meets its contract

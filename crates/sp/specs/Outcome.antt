@@ -1,6 +1,6 @@
 -- What an SP call answers and leaves in the two lent buffers, given its reading: refusal 8 with the packets needed, or all
 -- the packets and their counts. A refused call leaves everything as it was. Assumes nothing.
-use Rattle.std.specs.Prelude.{ℕ, ◌*◌, ◌/◌, min, ◌≡◌, List, length, leb, Result, Ok, Err}
+use Rattle.std.specs.Prelude.{ℕ, ◌*◌, ◌/◌, min, ◌≡◌, List, length, leb, Result}
 use Rattle.tables.specs.Lent.{over}
 use Rattle.refusals.specs.Said.{Said, answers, refusal, demand, onward, result_says}
 use Rattle.sp.specs.Readings.{Reading, total, joined_byte_at, file_count_at}

@@ -2,9 +2,10 @@
 // Rests on whole, which says whether the file is taken, on packets, which gives a packet for a read, on refusals, blocks and tables.
 #![tactic(auto)]
 
-ghost use Rattle.std.specs.Prelude.{◌≡◌, ◌+◌, ◌*◌, ◌/◌, ◌≤◌, ◌<◌, ◌^◌, min, cond, length, get_or, leb};
+ghost use Rattle.std.specs.Prelude.{ℕ, ◌≡◌, ◌+◌, ◌*◌, ◌/◌, ◌≤◌, ◌<◌, ◌^◌, min, cond, length, get_or, leb};
 ghost use Rattle.tables.specs.Lent.{Leaves};
 ghost use Rattle.blocks.specs.Places.{Whole, stream_at};
+ghost use Rattle.packets.specs.Packet.{IsPacket};
 ghost use Rattle.refusals.specs.Said.{answers, result_says};
 ghost use Rattle.whole.specs.Admissions.{announced_by};
 ghost use Rattle.sp.specs.Runs.{run_begin};
@@ -12,7 +13,7 @@ ghost use Rattle.sp.specs.ReadLists.{dss_run, dss_runs, ds2_runs};
 ghost use Rattle.sp.specs.Readings.{reading_of, read_by, dss_reading, ds2_reading};
 ghost use Rattle.sp.specs.Outcome.{Demuxes};
 ghost use Rattle.sp.specs.Written.{Written};
-ghost use Rattle.sp.specs.Inner.{RunWritten, Readable, AllReadable, Ready};
+ghost use Rattle.sp.specs.Inner.{MayRead, EachRead, Goes, RunWritten, Readable, AllReadable, Ready};
 
 use blocks::{FilePlace, StreamPlace};
 use detect::Kind;
@@ -29,8 +30,8 @@ pub struct Run {
     pub count: usize,
 }
 
-// For the crates above too. Puts a packet and its count under a number.
-pub fn put(packet: Packet, number: usize, out: &mut [u8], counts: &mut [u8])
+// Puts a packet and its count under a number.
+fn put(packet: Packet, number: usize, out: &mut [u8], counts: &mut [u8])
     requires room { (42 * (number + 1) ≤ length out.old) × (number < length counts.old) }
     ensures bytes { Leaves out.old (42 * number) 42 (λ i. get_or packet.bytes i 0) out.new }
     ensures count { Leaves counts.old number 1 (λ i. packet.count) counts.new }
@@ -39,8 +40,36 @@ pub fn put(packet: Packet, number: usize, out: &mut [u8], counts: &mut [u8])
     counts[number] = packet.count;
 }
 
-// For the crates above too. Hands out the packets of a run after `base` others, and gives back what is carried on. The bounds on place and number
-// are far above a file's, and keep every place below the 2^62 of read_packet.
+// For the crates above too. Hands out the packets of a run after `base` others, each as `read` gives it for its place, its parity and what
+// is carried to it, and gives back what is carried on.
+pub fn hand_out_run<F: Fn(StreamPlace, bool, u8) -> Packet>(
+    read: F,
+    run: Run,
+    carry: u8,
+    base: usize,
+    out: &mut [u8],
+    counts: &mut [u8],
+) -> u8
+    requires may { MayRead (F.pre read) run }
+    requires goes { EachRead (F.post read) run Goes }
+    requires room { (42 * (base + run.count) ≤ length out.old) × (base + run.count ≤ length counts.old) }
+    ensures { (s : ℕ → ℕ) (long : ℕ) → EachRead (F.post read) run (IsPacket s long) → RunWritten s long (run_begin carry run) base run.count out.old out.new counts.old counts.new result }
+{
+    let mut place = run.start;
+    let mut swap = run.swap;
+    let mut carried = carry;
+    for n in 0..run.count {
+        let packet = read(place, swap, carried);
+        place = packet.next;
+        carried = packet.carry;
+        swap = !swap;
+        put(packet, base + n, out, counts);
+    }
+    carried
+}
+
+// For the crates above too. Hands out the packets of a run from a file, as hand_out_run does. The bounds on place and number are far above
+// a file's, and keep every place below the 2^62 of read_packet.
 pub fn write_run(
     file: &[u8],
     recording: Recording,
@@ -57,17 +86,14 @@ pub fn write_run(
 {
     let start = recording.start;
     let blocks = recording.blocks;
-    let mut place = run.start;
-    let mut swap = run.swap;
-    let mut carried = carry;
-    for n in 0..run.count {
-        let packet = packets::read_packet(file, start, blocks, place, swap, carried);
-        place = packet.next;
-        carried = packet.carry;
-        swap = !swap;
-        put(packet, base + n, out, counts);
-    }
-    carried
+    hand_out_run(
+        |place, swap, carried| packets::read_packet(file, start, blocks, place, swap, carried),
+        run,
+        carry,
+        base,
+        out,
+        counts,
+    )
 }
 
 // For the crates above too. The run of a DSS block.

@@ -2,7 +2,6 @@
 -- Assumes nothing.
 use mathlib.Core.Path.{refl}
 use lib.ListN.{get_or-replicate}
-use Rattle.tables.proofs.Lent.{leaves_none, leaves_to}
 use Rattle.hold.proofs.Windows.{window_is}
 use borrow.Author.Rules.{rules}
 use Rattle.std.proofs.Common.{rules}

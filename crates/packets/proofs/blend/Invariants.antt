@@ -11,4 +11,3 @@ use Rattle.packets.proofs.blend.Given as goal
 abbrev pub invariant-loop-k : goal.invariant-loop-k
 invariant-loop-k l =
     ((length l.initial.blend ≡ 48) × Leaves l.initial.blend 0 l.k (λ j. cond (eqb (j % 2) 0) (get_or l.read (j + 4) 0) (get_or l.read j 0)) l.blend)
-

@@ -1,6 +1,5 @@
 -- `hold::waiting::released` meets its contract: the blocks so far are all read, and the first that is not is the front.
 -- Assumes nothing.
-use Prim.Native.Nat.{◌-◌}
 use Rattle.hold.proofs.Leaving.{Leaving}
 use Rattle.hold.proofs.waiting.released.Given as goal
 

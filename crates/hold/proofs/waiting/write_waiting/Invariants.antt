@@ -1,6 +1,6 @@
 -- `hold::waiting::write_waiting` meets its contract: block by block the parts follow one another.
 -- Assumes nothing.
-use Prim.Native.Nat.{◌-◌, ◌≤◌}
+use Prim.Native.Nat.{◌-◌}
 use lib.ListN.{length}
 use Rattle.hold.specs.Inner.{Queued}
 use Rattle.hold.proofs.Queue.{Queueing}
