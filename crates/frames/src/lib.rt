@@ -7,7 +7,7 @@ ghost use Rattle.tables.specs.Lent.{Leaves};
 ghost use Rattle.blocks.specs.Places.{Whole, file_of};
 ghost use Rattle.blocks.specs.Headers.{first_of};
 ghost use Rattle.refusals.specs.Said.{result_says};
-ghost use Rattle.whole.specs.Admissions.{stream_in, Sound};
+ghost use Rattle.whole.specs.Admissions.{stream_in};
 ghost use Rattle.frames.specs.Start.{frames_start};
 ghost use Rattle.frames.specs.Frames.{frame_of};
 ghost use Rattle.frames.specs.Fetch.{can_fetch, fetch_from, is_inside, stand_in, standing, fetched_says, stand_of, filled_from, shown_from, shown, Fills};

@@ -1,6 +1,6 @@
 // Bytes into the hold and out of it: a payload is put behind what is held, and what has been read is dropped in front.
 // For the rest of this crate and for the crates above. Rests on tables, and on blocks for the size.
-ghost use Rattle.std.specs.Prelude.{◌≡◌, ◌+◌, ◌≤◌, length, get_or};
+ghost use Rattle.std.specs.Prelude.{◌+◌, ◌≤◌, length, get_or};
 ghost use Rattle.tables.specs.Lent.{Leaves};
 ghost use Rattle.hold.specs.Inner.{Dropped};
 

@@ -3,7 +3,7 @@
 // is for the crates above.
 #![tactic(auto)]
 
-ghost use Rattle.std.specs.Prelude.{◌≡◌, false, List, ℕ, length};
+ghost use Rattle.std.specs.Prelude.{false, List, ℕ, length};
 ghost use Rattle.hold.specs.Ready.{reading_in};
 ghost use Rattle.hold.specs.Inner.{PartWritten, Next, Added, Walking};
 

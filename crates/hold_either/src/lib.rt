@@ -3,7 +3,7 @@
 // `dss` is a reader's kind, known only as it runs: a trait or a closure for each kind would leave this choice to the caller, and two laws there.
 #![tactic(auto)]
 
-ghost use Rattle.std.specs.Prelude.{◌≡◌, ◌+◌, length};
+ghost use Rattle.std.specs.Prelude.{◌+◌, length};
 ghost use Rattle.hold.specs.Ready.{reading_in, ready};
 ghost use Rattle.hold.specs.Inner.{PartWritten, Next, Added, Owing};
 

@@ -1,6 +1,6 @@
 // The blocks of an accepted piece, one after another: the first from what was kept of it and the piece, the others from the piece.
 // Rests on hold_either, for a block more, on hold, on blocks and tables.
-ghost use Rattle.std.specs.Prelude.{◌≡◌, List, true, false, ℕ, ◌+◌, ◌*◌, ◌-◌, ◌≤◌, ◌<◌, length};
+ghost use Rattle.std.specs.Prelude.{◌≡◌, List, ℕ, ◌+◌, ◌*◌, ◌-◌, ◌≤◌, ◌<◌, length};
 ghost use Rattle.blocks.specs.Places.{limit, whole_blocks};
 ghost use Rattle.hold.specs.Inner.{Added};
 ghost use Rattle.pieces.specs.Joined.{bytes_from};

@@ -3,7 +3,7 @@
 // are owed, on sp, for the answer's form, on packets, refusals, blocks and tables.
 #![tactic(auto)]
 
-ghost use Rattle.std.specs.Prelude.{◌≡◌, true, cond, ◌+◌, ◌-◌, ◌/◌, ◌%◌, ◌≤◌, ◌<◌, ◌^◌, min, eqb, leb};
+ghost use Rattle.std.specs.Prelude.{◌≡◌, true, cond, ◌+◌, ◌-◌, ◌/◌, ◌%◌, ◌≤◌, ◌<◌, min, eqb, leb};
 ghost use Rattle.refusals.specs.Said.{result_says};
 ghost use Rattle.reader.specs.State.{is_kind, start_of, reader_of, Reached};
 ghost use Rattle.reader.specs.Inner.{standing_of, fresh, step_to};

@@ -8,7 +8,6 @@ use Rattle.packets.specs.declared.Packet.{Packet}
 use Rattle.packets.specs.Packet.{read_size}
 use Rattle.packets.specs.Walk.{Walk, steps, count_at, reach, parity}
 use Rattle.packets.specs.Inner.{joined_at}
-use Rattle.refusals.specs.Said.{Said, answers}
 use Rattle.whole.specs.declared.Recording.{Recording}
 use Rattle.whole.specs.Admissions.{announced_by}
 use Rattle.sp.specs.declared.Run.{Run}
@@ -42,9 +41,6 @@ pub record RunWritten (s : ℕ → ℕ) (long : ℕ) (w : Walk) (base count : �
 pub record Readable (f : List ℕ) (rec : Recording) : Type 0 where
   pub whole : Whole f rec.start.0 rec.blocks
   pub blocks_few : rec.blocks ≤ 2 ^ 32
-
-abbrev pub AllReadable : List ℕ → Said Recording → Type 0
-AllReadable f said = (rec : Recording) → said ≡ answers rec → Readable f rec
 
 -- and before it is written: its packets are few, and there is room for all of them
 pub record Ready (f : List ℕ) (rec : Recording) (out counts : List ℕ) : Type 0 where

@@ -6,14 +6,14 @@ ghost use Rattle.std.specs.Prelude.{ℕ, ◌≡◌, ◌+◌, ◌*◌, ◌/◌, �
 ghost use Rattle.tables.specs.Lent.{Leaves};
 ghost use Rattle.blocks.specs.Places.{Whole, stream_at};
 ghost use Rattle.packets.specs.Packet.{IsPacket};
-ghost use Rattle.refusals.specs.Said.{answers, result_says};
+ghost use Rattle.refusals.specs.Said.{answers};
 ghost use Rattle.whole.specs.Admissions.{announced_by};
 ghost use Rattle.sp.specs.Runs.{run_begin};
 ghost use Rattle.sp.specs.ReadLists.{dss_run, dss_runs, ds2_runs};
-ghost use Rattle.sp.specs.Readings.{reading_of, read_by, dss_reading, ds2_reading};
+ghost use Rattle.sp.specs.Readings.{reading_of, dss_reading, ds2_reading};
 ghost use Rattle.sp.specs.Outcome.{Demuxes};
 ghost use Rattle.sp.specs.Written.{Written};
-ghost use Rattle.sp.specs.Inner.{MayRead, EachRead, Goes, RunWritten, Readable, AllReadable, Ready};
+ghost use Rattle.sp.specs.Inner.{MayRead, EachRead, Goes, RunWritten, Readable, Ready};
 
 use blocks::{FilePlace, StreamPlace};
 use detect::Kind;
