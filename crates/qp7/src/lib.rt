@@ -82,12 +82,16 @@ fn record_at(file: &[u8], recording: Recording, at: StreamPlace) -> Result<usize
     Ok(size)
 }
 
-// Puts a record's place under a number, if that is to be written.
+// Puts a record's place under a number, if that is to be written. Not by `tables::put_entry`, whose copy of one word takes eight instructions more
+// a record than there are to spare.
 fn note(at: StreamPlace, number: usize, most: usize, records: &mut [u32])
     requires { (at.0 < 2 ^ 32) × (most ≤ length records.old) }
     ensures { Puts records.old number most (at.0 ∷ []) records.new }
 {
-    tables::put_entry(records, number, most, &[at.0 as u32]);
+    if most <= number {
+        return;
+    }
+    records[number] = at.0 as u32;
 }
 
 // Reads so many records from where the walk stands, one after another.

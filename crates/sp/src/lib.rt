@@ -30,8 +30,8 @@ pub struct Run {
     pub count: usize,
 }
 
-// Puts a packet and its count under a number.
-fn put(packet: Packet, number: usize, out: &mut [u8], counts: &mut [u8])
+// For the crates above too. Puts a packet and its count under a number.
+pub fn put(packet: Packet, number: usize, out: &mut [u8], counts: &mut [u8])
     requires room { (42 * (number + 1) ≤ length out.old) × (number < length counts.old) }
     ensures bytes { Leaves out.old (42 * number) 42 (λ i. get_or packet.bytes i 0) out.new }
     ensures count { Leaves counts.old number 1 (λ i. packet.count) counts.new }

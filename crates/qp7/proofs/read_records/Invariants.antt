@@ -14,4 +14,3 @@ invariant-loop-k l =
     (l.k ≤ l.count) × (l.at.0 ≤ 506 * l.recording.blocks) × (length l.records ≡ length l.initial.records)
     × ((g : Gathered) → l.walk ≡ numbers_of g
     → Came (stream_at l.file l.recording.start.0 l.recording.blocks) (506 * l.recording.blocks) l.count l.most g l.initial.records l.records l.at.0 l.k)
-

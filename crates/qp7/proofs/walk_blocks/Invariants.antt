@@ -10,4 +10,3 @@ abbrev pub invariant-loop-block : goal.invariant-loop-block
 invariant-loop-block l =
     (l.block ≤ l.recording.blocks) × (length l.records ≡ length l.initial.records) × (length l.segments ≡ length l.initial.segments)
     × Gathers l.file l.recording l.most l.initial.records l.records l.initial.segments l.segments l.walk l.block
-
