@@ -65,7 +65,8 @@ pub struct Reading {
 }
 
 impl Reading {
-    fn refused(why: Refusal) -> Self {
+    // Of a refused file nothing is handed out.
+    fn not_read(why: Refusal) -> Self {
         Reading {
             told: Told::refused(why),
             digest: 0,
@@ -166,7 +167,7 @@ fn read_sp(file: &[u8], made: Made, ds2: bool, many: usize, out: &[u8], counts: 
 fn whole_sp(file: &[u8], made: Made, ds2: bool, out: &mut [u8], counts: &mut [u8]) -> Reading {
     match test_sums::demux(file, !ds2, out, counts) {
         Ok(many) => read_sp(file, made, ds2, many, out, counts),
-        Err(why) => Reading::refused(why),
+        Err(why) => Reading::not_read(why),
     }
 }
 
@@ -195,7 +196,7 @@ fn whole_qp(file: &[u8], made: Made) -> Reading {
             let all = test_fetched::of_segments(file, &table, totals.segments);
             gathered(2, made, totals.announced, all)
         }
-        Err(why) => Reading::refused(why),
+        Err(why) => Reading::not_read(why),
     }
 }
 
@@ -207,7 +208,7 @@ fn whole_qp7(file: &[u8], made: Made) -> Reading {
             let all = test_fetched::of_records(file, &records, &segments, totals.segments);
             gathered(3, made, totals.records, all)
         }
-        Err(why) => Reading::refused(why),
+        Err(why) => Reading::not_read(why),
     }
 }
 
