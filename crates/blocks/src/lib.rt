@@ -1,5 +1,6 @@
 // Blocks and places: a file's blocks after the audio start, their headers' fields, and the payload stream.
-// Every function here is for the crates above. Rests on tables.
+// Every function here is for the crates above. Rests on tables. File and audio start go side by side, and clauses say `Whole file.now ..` of them:
+// a struct of both would have moments of its own, and make the clauses longer.
 #![tactic(auto)]
 
 ghost use Rattle.std.specs.Prelude.{◌≡◌, ◌+◌, ◌*◌, ◌<◌, ◌≤◌, ◌^◌, length, get_or};

@@ -130,4 +130,3 @@ module _ (f x : List ℕ) (p : ℕ) where
   pub is_found : (rec : Recording) (said : Said Entry) → answers rec ≡ admission f true false → said ≡ found_beside f rec x p → said ≡ entry_found f x p
   unfolding entry_found
   is_found rec said e is = is ∙ sym (onward_answered (λ rec. found_beside f rec x p) e)
-

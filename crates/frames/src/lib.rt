@@ -23,7 +23,8 @@ pub const FRAME: usize = 56;
 // The largest number of 64 bits: no place lies past it.
 const LAST: usize = 18_446_744_073_709_551_615;
 
-// Where a frame starts, and how many bytes it has: none where it is missing.
+// Where a frame starts, and how many bytes it has: none where it is missing. No Option: `frame_of` has a missing frame's numbers too, and hosts are
+// told them.
 #[derive(Clone, Copy)]
 pub struct Found {
     pub place: StreamPlace,

@@ -66,4 +66,3 @@ module _ (f out : List ℕ) where
       → Builds (answers (contents_in f rec)) out out' answer → Builds (contents_of f) out out' answer
   unfolding contents_of
   taken rec out' answer e b = rw (← e) b
-

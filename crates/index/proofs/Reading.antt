@@ -90,4 +90,3 @@ module _ (f x : List ℕ) where
       → said ≡ totalled (index_read f x)
   unfolding index_read
   is_read rec said e is = is ∙ sym (ap totalled (onward_answered (λ rec. read_beside f rec x) e))
-

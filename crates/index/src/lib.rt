@@ -60,7 +60,7 @@ pub fn build_index(file: &[u8], out: &mut [u8]) -> Result<Size, Refusal>
     build(file, recording, out)
 }
 
-// Whether an index begins with a length, above 0, that is the number of bytes that follow it.
+// Whether an index begins with a length, above 0, that is the number of bytes that follow it. Under four bytes there is none to read.
 fn is_framed(index: &[u8]) -> bool
     ensures { result ≡ framed index.now }
 {

@@ -18,7 +18,8 @@ const MOST: usize = 65536;
 // No line is longer: a kind of 6 letters, six numbers of up to 20 digits with a space before each, and the line's end.
 pub const LINE: usize = 133;
 
-// Puts a text into the line from a place on, and answers where it ends.
+// Puts a text into the line from a place on, and answers where it ends. The library prints to a handle or a String; here the line is lent, and a
+// contract says each byte of it.
 fn put_text(text: &[u8], at: usize, line: &mut [u8]) -> usize
     requires { at + length text.now ≤ length line.old }
     ensures { Put text.now at line.old line.new result }

@@ -61,6 +61,7 @@ pub struct Entry {
     pub absent: u64,
 }
 
+// A letter of C's, and below a truth and a kind: no answers that are told in two numbers, and so no conversions to an `Answer`.
 pub fn of_format(format: AudioFormat) -> u8
     ensures { result ≡ format_number format }
 {

@@ -18,7 +18,10 @@ pub enum Refusal {
     // The header, which reaches to the audio start, is cut.
     Header(FilePlace),
     // A record cannot be told: of the 2 bytes from this place of the stream on so many are absent.
-    Selector { at: StreamPlace, absent: usize },
+    Selector {
+        at: StreamPlace,
+        absent: usize,
+    },
     // The record at this place, which has so many bytes, runs past the stream: so many of them are absent.
     Record {
         at: StreamPlace,

@@ -145,7 +145,8 @@ pub fn has_room(needed: usize, out: usize, counts: usize) -> bool
     needed <= counts.min(out / PACKET)
 }
 
-// Hands out a recording that announces so many packets, and for which there is room.
+// Hands out a recording that announces so many packets, and for which there is room. `cond dss ..` is one contract and one law for both kinds; of a
+// closure in its place each would have to say what it may write to either buffer.
 fn hand_out(
     file: &[u8],
     recording: Recording,

@@ -58,6 +58,7 @@ pub fn feed(reader: Reader, file: &[u8], cuts: Cuts, out: &mut [u8], counts: &mu
         sums: Sums::default(),
     };
     let mut at: usize = 0;
+    // as far as each piece goes, and no further than the first refusal: nothing is counted that a `for` could
     while at < file.len() && fed.sums.number == 0 {
         let end = piece_end(cuts, at, file.len());
         fed = take_piece(fed, &file[at..end], out, counts);

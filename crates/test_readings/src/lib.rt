@@ -233,7 +233,8 @@ pub fn whole(file: &[u8], made: Made, out: &mut [u8], counts: &mut [u8]) -> Read
     whole_sp(file, made, true, out, counts)
 }
 
-// A kind by its number: 0 DSSSP, 1 DS2SP, 2 DS2QP, 3 DS2QP7.
+// A kind by its number: 0 DSSSP, 1 DS2SP, 2 DS2QP, 3 DS2QP7. Said again here, as a format's number is in test_asked: a test does not ask the code
+// what to expect.
 fn kind_number(kind: FileKind) -> u64 {
     match kind {
         FileKind::DssSp => 0,

@@ -44,7 +44,7 @@ pub fn one_qp_block() -> [u8; 4096]
     file
 }
 
-// A QP7 file of one block that announces 10 records, all of them long.
+// A QP7 file of one block that announces 10 records, all of them long. That `fill` of those places leaves 4096 bytes was not found by the check.
 pub fn long_records(byte1: u8) -> [u8; 4096]
     ensures { length result ≡ 4096 }
 {

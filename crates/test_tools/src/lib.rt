@@ -159,7 +159,8 @@ pub fn all_differ(
     Ok(wrong)
 }
 
-// Reads standard input into a buffer until that is full or the input ends, and answers how many bytes there are.
+// Reads standard input into a buffer until that is full or the input ends, and answers how many bytes there are. How many reads that takes nobody
+// knows.
 pub fn read_full(rt: &impl Input, space: &mut [u8]) -> io::Result<usize>
     ensures { IfOk result (λ n. n ≤ length space.new) }
 {

@@ -11,7 +11,6 @@ returns-then-total-number c =
 
 pub returns-then-not-has_room : goal.returns-then-not-has_room
 returns-then-not-has_room c =
-    
     (packet_no_room _ _ _ _ _ (omega (arith, c.if-total-number.false, c.announced-total.ensures.0)) (sym c.has_room.ensures ∙ c.if-not-has_room.true))
 
 pub returns : goal.returns

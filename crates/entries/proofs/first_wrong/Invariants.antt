@@ -6,4 +6,3 @@ use Rattle.entries.proofs.first_wrong.Given as goal
 abbrev pub invariant-loop-block : goal.invariant-loop-block
 invariant-loop-block l =
     StandsUpto l.file l.recording.start.0 l.recording.blocks l.index l.front l.block l.number l.first
-

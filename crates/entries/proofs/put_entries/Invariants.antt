@@ -6,4 +6,3 @@ use Rattle.entries.proofs.put_entries.Given as goal
 abbrev pub invariant-loop-block : goal.invariant-loop-block
 invariant-loop-block l =
     LaidUpto l.file l.recording.start.0 l.recording.blocks l.initial.out l.front l.block l.at l.first l.out
-

@@ -8,4 +8,3 @@ use Rattle.finding.proofs.carried_into.Given as goal
 abbrev pub invariant-loop-before : goal.invariant-loop-before
 invariant-loop-before l =
     (l.before ≤ l.block) × (carried_into l.file l.recording l.before ≡ carried_into l.file l.recording l.block)
-

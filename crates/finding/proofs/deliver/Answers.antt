@@ -10,7 +10,6 @@ use Rattle.finding.proofs.deliver.Goals as goal
 pub returns-then-not-has_room : goal.returns-then-not-has_room
 returns-then-not-has_room c =
     let a = c.args in
-        
     (no_room _ _ _ 1 (sym (alone_total a.file.now a.recording (stands_by a.file.now a.recording a.entry a.packet))) (sym c.has_room.ensures ∙ c.if-not-has_room.true))
 
 pub hand_out-requires : goal.hand_out-requires

@@ -7,4 +7,3 @@ use Rattle.laying.proofs.begin.Given as goal
 
 abbrev pub invariant-loop-block : goal.invariant-loop-block
 invariant-loop-block l = (l.block ≤ l.blocks) × Leaves l.initial.out 1536 (512 * l.block) (silent_at l.kind) l.out
-

@@ -6,4 +6,3 @@ use Rattle.qp.proofs.write_segments.Given as goal
 abbrev pub invariant-loop-block : goal.invariant-loop-block
 invariant-loop-block l =
     Blockwise l.file l.recording.start.0 l.recording.blocks l.most l.initial.table l.block l.gathering l.table
-

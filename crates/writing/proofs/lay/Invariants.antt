@@ -7,4 +7,3 @@ use Rattle.writing.proofs.lay.Given as goal
 
 abbrev pub invariant-loop-k : goal.invariant-loop-k
 invariant-loop-k l = (l.k ≤ l.many) × Holds l.initial.out l.header (part_laid l.many (byte_in l.packets) l.k) l.out
-

@@ -7,4 +7,3 @@ use Rattle.writing.proofs.sound_in.Given as goal
 
 abbrev pub invariant-loop-k : goal.invariant-loop-k
 invariant-loop-k l = (l.k ≤ l.many) × ((l.many ≡ many_in l.packets) × ((j : ℕ) → j < l.k → byte_in l.packets j 40 ≡ 0))
-
