@@ -1,5 +1,5 @@
-// The numbers that an answer of the crates below is handed over as, for C. Everything public here is for the crates above. Rests on the
-// enums of those crates.
+// The numbers that an answer of the crates below is handed over as, for C. Everything public here is for the crates above. Rests on what
+// those crates answer.
 #![tactic(auto)]
 
 ghost use Rattle.std.specs.Prelude.{◌≡◌, ℕ};

@@ -1,6 +1,6 @@
 // Reading in pieces: a Reader takes an SP recording's bytes in any cut, hands out packets as they become ready, and ends strictly or
 // leniently. What `Ds2SpStreamDemuxer` and `DssSpStreamDemuxer` do. Rests on pieces, for a piece, on hold and hold_either, for packets that
-// are owed, on sp, for the answer's form, on packets, refusals, blocks and tables.
+// are owed, on packets, refusals and blocks.
 #![tactic(auto)]
 
 ghost use Rattle.std.specs.Prelude.{◌≡◌, true, cond, ◌+◌, ◌-◌, ◌/◌, ◌%◌, ◌≤◌, ◌<◌, min, eqb, leb};
@@ -27,11 +27,12 @@ const DRAINS: u64 = 1;
 
 const ENDED: u64 = 2;
 
-// A reader: a call by value takes it and hands the next one back, a call in place advances it. All fields are numbers or arrays of them. `kind` is 0 for DS2 and 2
-// or 3 for DSS; `phase` is 0 while it takes pieces, 1 while it drains, 2 when it has ended. Then: bytes taken, frames announced, packets
-// that are ready and those drained beyond them, where the hold begins in the payload stream, the first block's byte 0, the carried byte;
-// the hold, the bytes of a block not yet whole, and of DSS blocks that wait, at most 22, three header bytes each. Kind, phase and the choice
-// of an end are numbers, and not enums: hosts lay a reader out so, `open` and `end` take any number, and `State` has them as they are.
+// A reader: a call by value takes it and hands the next one back, a call in place advances it. All fields are numbers or arrays of them.
+// `kind` is 0 for DS2 and 2 or 3 for DSS; `phase` is 0 while it takes pieces, 1 while it drains, 2 when it has ended. Then: bytes taken,
+// frames announced, packets that are ready and those drained beyond them, where the hold begins in the payload stream, the first block's
+// byte 0, the carried byte; the hold, the bytes of a block not yet whole, and of DSS blocks that wait, at most 22, three header bytes each.
+// Kind, phase and the choice of an end are numbers, and not enums: hosts lay a reader out so, `open` and `end` take any number, and `State`
+// has them as they are.
 #[repr(C)]
 #[derive(Clone, Copy)]
 pub struct Reader {
