@@ -140,6 +140,7 @@ pub fn klov_tally(file: &[u8]) -> Tallied
     Tallied::from(tally::tally(file))
 }
 
+// A kind is a number here, and so is the choice of an end below: C hands over any.
 pub fn klov_open(kind: u64) -> Opened
     ensures { OpenCarries kind result }
 {

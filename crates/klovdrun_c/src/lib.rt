@@ -1,4 +1,5 @@
 // The exports for C: each is the function of its name in klovdrun, with its contract, and does nothing else. Rests on klovdrun.
+// Each stands twice since C calls an archive's and Rattle a library's, and takes and answers numbers since C does.
 // include/klovdrun.h says the same in C.
 #![tactic(auto)]
 

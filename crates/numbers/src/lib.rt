@@ -61,7 +61,8 @@ pub struct Entry {
     pub absent: u64,
 }
 
-// A letter of C's, and below a truth and a kind: no answers that are told in two numbers, and so no conversions to an `Answer`.
+// The number that C has for a format; below, for a truth and for a kind. Not by `From`: neither type is this crate's, and a contract names the
+// definition.
 pub fn of_format(format: AudioFormat) -> u8
     ensures { result ≡ format_number format }
 {
@@ -190,10 +191,9 @@ impl Answer {
         Self {
             refusal: why.number,
             beside: why.beside,
-            first: 0,
-            second,
             size: why.size,
             absent: why.absent,
+            ..Self::answered(0, second)
         }
     }
 }
@@ -222,7 +222,8 @@ impl From<Found> for Answer {
     }
 }
 
-// The numbers of a reader's call: its packets, and the frames that the reader owes afterwards.
+// The numbers of a reader's call: its packets, and the frames that the reader owes afterwards, which the answer alone does not have: so it is no
+// conversion.
 pub fn of_call(answer: Result<usize, Refusal>, reader: &Reader) -> Answer
     requires { Reached reader.now }
     ensures numbers { result ≡ owing_numbers result.second (result_says answer) }
@@ -265,6 +266,7 @@ impl From<Result<entries::Entry, Refusal>> for Entry {
     }
 }
 
+// The number that C has for a kind of file, as for a format above.
 fn of_kind(kind: FileKind) -> u64
     ensures { result ≡ kind_number kind }
 {

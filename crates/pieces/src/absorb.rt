@@ -22,7 +22,7 @@ fn renew(partial: &mut [u8; 512], piece: &[u8], taken: usize, place: usize)
     tables::clear(partial, end, BLOCK - end);
 }
 
-// Adds block b of the bytes joined.
+// Adds block b of the bytes joined, of either kind, which is known only as a reader runs (hold_either).
 fn take_block(
     dss: bool,
     a: FilePlace,

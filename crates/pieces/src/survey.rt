@@ -192,7 +192,7 @@ fn judge(
     judge_ds2(a, taken, was, partial, piece, room)
 }
 
-// For the crates above. Refusals 6 and 2 before them.
+// For the crates above. Refusals 6 and 2 before them. The phase is the number that a reader has.
 pub fn decide(
     dss: bool,
     a: FilePlace,

@@ -82,8 +82,8 @@ fn record_at(file: &[u8], recording: Recording, at: StreamPlace) -> Result<usize
     Ok(size)
 }
 
-// Puts a record's place under a number, if that is to be written. Not by `tables::put_entry`, whose copy of one word takes eight instructions more
-// a record than there are to spare.
+// Puts a record's place under a number, if that is to be written. Not by `tables::put_entry`, whose copy of one word takes some eight instructions
+// more a record: 68 in all, and the limit is 61.5.
 fn note(at: StreamPlace, number: usize, most: usize, records: &mut [u32])
     requires { (at.0 < 2 ^ 32) × (most ≤ length records.old) }
     ensures { Puts records.old number most (at.0 ∷ []) records.new }

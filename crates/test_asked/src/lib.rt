@@ -11,6 +11,7 @@ use test_expected::Replay;
 use test_fetched::{qp_said, qp7_said};
 use test_tools::{digest, digest_all, part};
 
+// The list's number for a format, said again here: a test does not ask the code what to expect.
 fn format_number(format: AudioFormat) -> u64 {
     match format {
         AudioFormat::None => 0,

@@ -56,7 +56,7 @@ pub fn empty_piece(reader: Reader, out: &mut [u8], counts: &mut [u8]) -> Sums
     count_in(Sums::default(), step.answer, 0, out, counts)
 }
 
-// An end by a choice.
+// An end by a choice, which is any number: `end` takes one.
 fn end_once(reader: Reader, choice: u64, out: &mut [u8], counts: &mut [u8]) -> After
     requires { Reached reader }
     ensures { Reached result.reader }

@@ -12,7 +12,7 @@ mod drained;
 // The files, each in every way.
 mod cuts;
 
-// Room for the packets of any file that is made.
+// Room for the packets of any file that is made; no list is replayed here.
 fn room() -> [u8; 430080] {
     [0u8; 430080]
 }

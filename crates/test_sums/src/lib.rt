@@ -116,7 +116,7 @@ pub fn left(answer: Result<usize, Refusal>, out: &[u8], counts: &[u8]) -> [u64; 
     ]
 }
 
-// The whole SP call of a family.
+// The whole SP call of a family: which of the two calls, the caller's list says by a number.
 pub fn demux(file: &[u8], dss: bool, out: &mut [u8], counts: &mut [u8]) -> Result<usize, Refusal> {
     if dss {
         sp::demux_dss(file, out, counts)

@@ -11,7 +11,7 @@ use test_tools::{Cuts, digest_all};
 // What is asked of a file.
 #[derive(Clone, Copy)]
 struct Asked {
-    // The kind of a reader, and how the file is cut for it.
+    // The kind of a reader, a number as `open` takes it, and how the file is cut for it.
     kind: u64,
     cuts: Cuts,
     // How much is lent: bytes of the output, counts, words of QP's table, of QP7's records and of its segments.

@@ -21,7 +21,7 @@ fn conclude(rt: &impl Print, cases: usize, answered: usize, back: usize) -> io::
     rt.write_all(b"\n")
 }
 
-// Runs through the list. A case has some numbers, so there are no more cases than bytes.
+// Runs through the list. A case has some numbers, so there are no more cases than bytes. Not by `replay_list`: what a case comes to is added up here.
 fn run(rt: &impl Print, list: &[u8]) -> io::Result<()> {
     let mut numbers = Numbers::of(list);
     let mut cases: usize = 0;
