@@ -8,7 +8,7 @@ use frames::Fetched;
 use refusals::{Numbers, Refusal};
 use std::io;
 use test_expected::Replay;
-use test_fetched::{qp_said, qp7_said};
+use test_sums::{expect_said, said};
 use test_tools::{digest, digest_all, part};
 
 // The list's number for a format, said again here: a test does not ask the code what to expect.
@@ -78,10 +78,12 @@ fn with_segments<R: Print>(
     answer: Result<qp::Totals, Refusal>,
     table: &[u32],
 ) -> io::Result<()> {
-    let said = qp_said(answer);
-    let segments = said[2] as usize;
+    let segments = answer.map_or(0, |totals| totals.segments);
     let all = test_fetched::of_segments(file, table, segments);
-    replay.expect_all(&said)?;
+    expect_said(
+        replay,
+        answer.map(|totals| [totals.segments as u64, totals.announced as u64]),
+    )?;
     replay.expect(digest(0, table, words(qp::ENTRY, segments)))?;
     replay.expect(all.digest)
 }
@@ -101,6 +103,17 @@ pub fn whole_qp<R: Print>(replay: &mut Replay<'_, R>, file: &[u8], lent: usize) 
     in_table(replay, file, &mut table[..lent.min(16384)])
 }
 
+// The refused record's size and the bytes that are absent. The list has them last, past the digests.
+fn of_refused(answer: Result<qp7::Totals, Refusal>) -> [u64; 2] {
+    match answer {
+        Err(why) => {
+            let why = Numbers::from(why);
+            [why.size, why.absent]
+        }
+        Ok(_) => [0, 0],
+    }
+}
+
 // What a whole QP7 call answered and left.
 fn with_records<R: Print>(
     replay: &mut Replay<'_, R>,
@@ -109,13 +122,19 @@ fn with_records<R: Print>(
     records: &[u32],
     segments: &[u32],
 ) -> io::Result<()> {
-    let [number, beside, of_records, of_segments, size, absent] = qp7_said(answer);
+    let (refusal, totals) = said(answer.map(|totals| [
+        totals.records as u64,
+        totals.segments as u64,
+    ]));
+    let [of_records, of_segments] = totals;
     let many = of_segments as usize;
     let all = test_fetched::of_records(file, records, segments, many);
-    replay.expect_all(&[number, beside, of_records, of_segments])?;
+    replay.expect_all(&refusal)?;
+    replay.expect_all(&totals)?;
     replay.expect(digest(0, records, words(1, of_records as usize)))?;
     replay.expect(digest(0, segments, words(qp7::ENTRY, many)))?;
-    replay.expect_all(&[all.digest, size, absent])
+    replay.expect(all.digest)?;
+    replay.expect_all(&of_refused(answer))
 }
 
 fn in_tables<R: Print>(
@@ -153,15 +172,11 @@ pub struct Request {
     pub lent: usize,
 }
 
-// Where a frame stands, in numbers: refusal, beside, whether it is in the scratch, the file place.
-fn place_said(answer: Result<Fetched, Refusal>) -> [u64; 4] {
-    match answer {
-        Err(why) => {
-            let why = Numbers::from(why);
-            [why.number, why.beside, 0, 0]
-        }
-        Ok(Fetched::InScratch) => [0, 0, 1, 0],
-        Ok(Fetched::InFile(place)) => [0, 0, 0, place.0 as u64],
+// Where a frame stands, in numbers: whether it is in the scratch, and the file place.
+fn place_numbers(found: Fetched) -> [u64; 2] {
+    match found {
+        Fetched::InScratch => [1, 0],
+        Fetched::InFile(place) => [0, place.0 as u64],
     }
 }
 
@@ -172,9 +187,9 @@ fn fetch<R: Print>(
     size: usize,
     scratch: &mut [u8],
 ) -> io::Result<()> {
-    let said = place_said(frames::fill(file, place, size, scratch));
+    let answer = frames::fill(file, place, size, scratch);
     let shown = frames::show(file, place, size, scratch);
-    replay.expect_all(&said)?;
+    expect_said(replay, answer.map(|found| place_numbers(found)))?;
     replay.expect(digest_all(0, shown))?;
     replay.expect(digest_all(0, scratch))
 }
@@ -203,22 +218,13 @@ pub fn placed<R: Print>(
     request: Request,
 ) -> io::Result<()> {
     let answer = frames::frame_place(file, request.place, request.size, request.lent);
-    replay.expect_all(&place_said(answer))
+    expect_said(replay, answer.map(|found| place_numbers(found)))
 }
 
-// Where a payload stands, in numbers: refusal, beside, the file place.
-fn payload_said(answer: Result<FilePlace, Refusal>) -> [u64; 3] {
-    match answer {
-        Err(why) => {
-            let why = Numbers::from(why);
-            [why.number, why.beside, 0]
-        }
-        Ok(place) => [0, 0, place.0 as u64],
-    }
-}
-
+// Where a payload stands, and a digest of it.
 pub fn payload<R: Print>(replay: &mut Replay<'_, R>, file: &[u8], block: usize) -> io::Result<()> {
-    replay.expect_all(&payload_said(whole::payload_place(file, block)))?;
+    let answer = whole::payload_place(file, block);
+    expect_said(replay, answer.map(|place| [place.0 as u64]))?;
     replay.expect(digest_all(0, whole::payload(file, block)))
 }
 

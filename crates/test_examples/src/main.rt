@@ -1,5 +1,5 @@
 // The bench's examples on the code, what detection says of types 8 to 255, and the listing's lines: a line each. What the examples say of the
-// definitions is in specs/, and that it holds in proofs/. Rests on every crate that an example speaks of.
+// definitions is in specs/, and that it holds in proofs/. Rests on every crate that an example speaks of, and on test_tools for a sum.
 #![tactic(auto)]
 
 ghost use Rattle.std.specs.Prelude.{◌≡◌, ◌≤◌, length};
@@ -130,10 +130,6 @@ fn example_5(rt: &impl Print) -> io::Result<()> {
     text(rt, b"\n")
 }
 
-fn sum(counts: &[u8; 13]) -> usize {
-    counts.iter().fold(0, |sum: usize, count| sum.wrapping_add(usize::from(*count)))
-}
-
 // One block, flag 0, that announces 13 packets.
 fn show_block(rt: &impl Print, file: [u8; 4096], counts: &mut [u8]) -> io::Result<()>
     requires { length file ≡ 4096 }
@@ -150,7 +146,7 @@ fn example_6(rt: &impl Print) -> io::Result<()> {
     text(rt, b", the last has")?;
     number(rt, usize::from(counts[12]))?;
     text(rt, b" file bytes, all have")?;
-    number(rt, sum(&counts))?;
+    number(rt, test_tools::sum_of(&counts) as usize)?;
     text(rt, b"\n")
 }
 

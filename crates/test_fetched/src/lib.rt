@@ -1,9 +1,8 @@
-// What QP and QP7 calls answered, in numbers, and digests of their segments with the bytes of the frames and records, each found, filled and
-// shown by the calls. All of it is for the crates above. Rests on frames, qp, qp7, refusals and blocks, and on test_tools.
+// Digests of the segments of QP and QP7 calls with the bytes of the frames and records, each found, filled and shown by the calls. All of it is
+// for the crates above. Rests on frames, qp, qp7 and blocks, and on test_tools.
 #![tactic(auto)]
 
 use blocks::StreamPlace;
-use refusals::{Numbers, Refusal};
 use test_tools::{digest_all, mix, part, word};
 
 // What is handed out of a table: how much, how much of it short, and how many bytes; and a digest of it all. By default nothing.
@@ -102,26 +101,4 @@ pub fn of_records(file: &[u8], records: &[u32], table: &[u32], segments: usize) 
         all = with_records(all, file, part(records, word(entry, 0), many));
     }
     all
-}
-
-// A refusal and the number beside it, then segments and frames announced.
-pub fn qp_said(answer: Result<qp::Totals, Refusal>) -> [u64; 4] {
-    match answer {
-        Err(why) => {
-            let why = Numbers::from(why);
-            [why.number, why.beside, 0, 0]
-        }
-        Ok(totals) => [0, 0, totals.segments as u64, totals.announced as u64],
-    }
-}
-
-// A refusal and the number beside it, then records and segments, then the refused record's size and the bytes that are absent.
-pub fn qp7_said(answer: Result<qp7::Totals, Refusal>) -> [u64; 6] {
-    match answer {
-        Err(why) => {
-            let why = Numbers::from(why);
-            [why.number, why.beside, 0, 0, why.size, why.absent]
-        }
-        Ok(totals) => [0, 0, totals.records as u64, totals.segments as u64, 0, 0],
-    }
 }

@@ -1,12 +1,10 @@
 // One case: its file and its index are made, the four calls are asked, and what they answer and leave is held to the list. Rests on the rest of
-// this program, on index, finding, entries and refusals, and on test_expected, test_sums and test_tools.
+// this program, on index and finding, and on test_expected, test_sums and test_tools.
 use crate::making::next_index;
-use entries::{Entry, Totals};
-use index::Size;
-use refusals::{Numbers, Refusal};
 use std::io;
 use test_expected::making::next_case;
 use test_expected::{Case, Replay};
+use test_sums::expect_said;
 use test_tools::digest_all;
 
 // What is asked of a file: which packet, and how many bytes of the output, how many counts, and how many bytes for an index are lent.
@@ -18,48 +16,13 @@ struct Asked {
     for_index: usize,
 }
 
-// What building answers: the refusal and the number beside it, and bytes and entries.
-fn built_said(answer: Result<Size, Refusal>) -> [u64; 4] {
-    match answer {
-        Err(why) => {
-            let why = Numbers::from(why);
-            [why.number, why.beside, 0, 0]
-        }
-        Ok(size) => [0, 0, size.bytes as u64, size.entries as u64],
-    }
-}
-
-// What reading answers: the refusal and the number beside it, and entries and packets.
-fn read_said(answer: Result<Totals, Refusal>) -> [u64; 4] {
-    match answer {
-        Err(why) => {
-            let why = Numbers::from(why);
-            [why.number, why.beside, 0, 0]
-        }
-        Ok(totals) => [0, 0, totals.entries as u64, totals.packets as u64],
-    }
-}
-
-// What finding answers: the refusal and the number beside it, and the entry.
-fn found_said(answer: Result<Entry, Refusal>) -> [u64; 5] {
-    match answer {
-        Err(why) => {
-            let why = Numbers::from(why);
-            [why.number, why.beside, 0, 0, 0]
-        }
-        Ok(entry) => [
-            0,
-            0,
-            entry.number as u64,
-            entry.first as u64,
-            entry.place.0 as u64,
-        ],
-    }
-}
-
-// Building: its answer, and a digest of all that was lent.
+// Building: its answer, which is bytes and entries, and a digest of all that was lent.
 fn build<R: Print>(replay: &mut Replay<'_, R>, file: &[u8], out: &mut [u8]) -> io::Result<()> {
-    replay.expect_all(&built_said(index::build_index(file, out)))?;
+    let answer = index::build_index(file, out);
+    expect_said(
+        replay,
+        answer.map(|size| [size.bytes as u64, size.entries as u64]),
+    )?;
     replay.expect(digest_all(0, out))
 }
 
@@ -69,15 +32,27 @@ fn built<R: Print>(replay: &mut Replay<'_, R>, file: &[u8], lent: usize) -> io::
     build(replay, file, &mut out[..lent.min(4096)])
 }
 
-// Reading an index, and finding the entry for a packet by it.
+// Reading an index, which answers entries and packets, and finding the entry for a packet by it.
 fn by_index<R: Print>(
     replay: &mut Replay<'_, R>,
     file: &[u8],
     index: &[u8],
     number: usize,
 ) -> io::Result<()> {
-    replay.expect_all(&read_said(index::read_index(file, index)))?;
-    replay.expect_all(&found_said(finding::find_entry(file, index, number)))
+    let read = index::read_index(file, index);
+    expect_said(
+        replay,
+        read.map(|totals| [totals.entries as u64, totals.packets as u64]),
+    )?;
+    let found = finding::find_entry(file, index, number);
+    expect_said(
+        replay,
+        found.map(|entry| [
+            entry.number as u64,
+            entry.first as u64,
+            entry.place.0 as u64,
+        ]),
+    )
 }
 
 // A packet by an index, with so much lent.

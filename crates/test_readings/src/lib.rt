@@ -6,7 +6,7 @@ use refusals::{Numbers, Refusal};
 use tally::FileKind;
 use test_fetched::Gathered;
 use test_generated::Made;
-use test_tools::{digest_all, part};
+use test_tools::{digest_all, part, sum_of};
 
 // A tally in numbers: refusal and beside; kind, audio start and blocks; the frames that are announced, what is handed out, how much of it
 // short, and its bytes; and a refused record's size and the bytes that are absent.
@@ -134,13 +134,6 @@ fn short_in(file: &[u8], made: Made, ds2: bool, counts: &[u8]) -> usize {
     } else {
         short_in_dss(file, made, counts)
     }
-}
-
-// How many file bytes packets have, by their counts.
-fn sum_of(counts: &[u8]) -> u64 {
-    counts
-        .iter()
-        .fold(0, |sum: u64, count| sum.wrapping_add(u64::from(*count)))
 }
 
 // What the SP call of a family handed out, in so many packets.

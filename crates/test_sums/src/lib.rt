@@ -1,7 +1,10 @@
-// What SP calls answered and handed out, in numbers. All of it is for the crates above. Rests on sp, refusals and test_tools.
+// What calls answered, and what SP calls handed out, in numbers. All of it is for the crates above. Rests on sp, refusals, test_expected and
+// test_tools.
 #![tactic(auto)]
 
 use refusals::{Numbers, Refusal};
+use std::io;
+use test_expected::Replay;
 use test_tools::{digest, digest_past, packet_bytes};
 
 // What came out so far. By default nothing, as before the first piece.
@@ -95,6 +98,27 @@ pub fn count_in(
     test_tools::refill(out, packet_bytes(many));
     test_tools::refill(counts, many);
     next
+}
+
+// What a call says in numbers: the refusal and the number beside it, and the numbers of its answer, which are 0 where it is refused.
+pub fn said<const N: usize>(answer: Result<[u64; N], Refusal>) -> ([u64; 2], [u64; N]) {
+    match answer {
+        Err(why) => {
+            let why = Numbers::from(why);
+            ([why.number, why.beside], [0; N])
+        }
+        Ok(numbers) => ([0, 0], numbers),
+    }
+}
+
+// Holds what a call says to the list.
+pub fn expect_said<R: Print, const N: usize>(
+    replay: &mut Replay<'_, R>,
+    answer: Result<[u64; N], Refusal>,
+) -> io::Result<()> {
+    let (refusal, numbers) = said(answer);
+    replay.expect_all(&refusal)?;
+    replay.expect_all(&numbers)
 }
 
 // What one answer is in numbers.

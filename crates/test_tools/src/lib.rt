@@ -127,6 +127,13 @@ pub fn digest_all<T: Copy + Into<u64>>(before: u64, numbers: &[T]) -> u64 {
         .fold(before, |digest, number| mix(digest, (*number).into()))
 }
 
+// The sum of some numbers.
+pub fn sum_of<T: Copy + Into<u64>>(numbers: &[T]) -> u64 {
+    numbers
+        .iter()
+        .fold(0, |sum: u64, number| sum.wrapping_add((*number).into()))
+}
+
 // A digest with up to 64 bytes more, from a place on: what a call was to leave as it was.
 pub fn digest_past(before: u64, bytes: &[u8], from: usize) -> u64 {
     digest_all(before, part(bytes, from, 64))

@@ -1,7 +1,7 @@
 // One case: its header and packets are made, the writer is called, what it answers and leaves is held to the list, and a file that it wrote
 // is read whole. Rests on the rest of this program, on writing and refusals, and on test_sums and test_tools.
 use crate::making::{self, Case};
-use refusals::{Numbers, Refusal};
+use refusals::Refusal;
 use std::io;
 use test_tools::{all_differ, digest_all};
 
@@ -12,17 +12,6 @@ pub struct Came {
     pub back: bool,
 }
 
-// What the call answered, in numbers: the refusal and the number beside it, and how long the file is.
-fn wrote(answer: Result<usize, Refusal>) -> [u64; 3] {
-    match answer {
-        Err(why) => {
-            let why = Numbers::from(why);
-            [why.number, why.beside, 0]
-        }
-        Ok(size) => [0, 0, size as u64],
-    }
-}
-
 // Holds an answer to the list, and a digest of all that was lent for the file.
 fn hold_answer(
     rt: &impl Print,
@@ -30,7 +19,7 @@ fn hold_answer(
     answer: Result<usize, Refusal>,
     out: &[u8],
 ) -> io::Result<()> {
-    let [number, beside, size] = wrote(answer);
+    let ([number, beside], [size]) = test_sums::said(answer.map(|size| [size as u64]));
     let got = [number, beside, size, digest_all(0, out)];
     all_differ(rt, b"case ", case.number, &case.answers, &got)?;
     Ok(())
