@@ -228,6 +228,6 @@ pub fn show<'a>(file: &'a [u8], place: StreamPlace, size: usize, scratch: &'a [u
 {
     match fetch_from(file, place, size, scratch.len()) {
         Ok(recording) => show_from(file, recording, place, size, scratch),
-        Err(_) => &[],
+        Err(_) => &file[..0],
     }
 }

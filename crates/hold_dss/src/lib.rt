@@ -12,7 +12,9 @@ use blocks::{HEADER, PAYLOAD, StreamPlace};
 use hold::Standing;
 use sp::Run;
 
-// Adds block b of a DSS recording, whose bytes are there in a source: it waits behind those that wait, and all that can leave are handed out.
+// Adds block b of a DSS recording, whose bytes are there in a source: it waits behind those that wait, and all that can leave are handed out. By
+// itself the walk of a block that is handed out as it comes keeps its registers; inside add_dss it took two instructions a packet more.
+#[inline(never)]
 fn queue_dss(
     was: Standing,
     b: usize,

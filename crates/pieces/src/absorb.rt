@@ -1,6 +1,6 @@
 // The blocks of an accepted piece, one after another: the first from what was kept of it and the piece, the others from the piece.
 // Rests on hold_either, for a block more, on hold, on blocks and tables.
-ghost use Rattle.std.specs.Prelude.{◌≡◌, List, ℕ, ◌+◌, ◌*◌, ◌-◌, ◌≤◌, ◌<◌, length};
+ghost use Rattle.std.specs.Prelude.{◌≡◌, List, true, false, ℕ, ◌+◌, ◌*◌, ◌-◌, ◌≤◌, ◌<◌, length};
 ghost use Rattle.blocks.specs.Places.{limit, whole_blocks};
 ghost use Rattle.hold.specs.Inner.{Added};
 ghost use Rattle.pieces.specs.Joined.{bytes_from};
@@ -61,8 +61,10 @@ fn take_block(
     hold_either::add_block(dss, was, b, hold, waiting, &block, 0, number, out, counts)
 }
 
-// For the crates above. Adds all blocks that are whole with an accepted piece, and keeps the bytes of the one that is not.
+// For the crates above. Adds all blocks that are whole with an accepted piece, and keeps the bytes of the one that is not; a refused piece changes
+// nothing.
 pub fn absorb(
+    accepted: bool,
     dss: bool,
     a: FilePlace,
     taken: usize,
@@ -75,9 +77,13 @@ pub fn absorb(
     counts: &mut [u8],
 ) -> Standing
     requires near { a.0 ≤ 1536 }
-    requires able { (f : List ℕ) × Able dss f a.0 taken was hold.old partial.old waiting.old piece.now (length out.old) (length counts.old) }
-    ensures { (f : List ℕ) → Able dss f a.0 taken was hold.old partial.old waiting.old piece.now (length out.old) (length counts.old) → Absorbed dss f a.0 taken hold.new partial.new waiting.new result out.old out.new counts.old counts.new }
+    requires able { accepted ≡ true → ((f : List ℕ) × Able dss f a.0 taken was hold.old partial.old waiting.old piece.now (length out.old) (length counts.old)) }
+    ensures refused { accepted ≡ false → (result ≡ was) × (hold.new ≡ hold.old) × (partial.new ≡ partial.old) × (waiting.new ≡ waiting.old) × (out.new ≡ out.old) × (counts.new ≡ counts.old) }
+    ensures taken { accepted ≡ true → (f : List ℕ) → Able dss f a.0 taken was hold.old partial.old waiting.old piece.now (length out.old) (length counts.old) → Absorbed dss f a.0 taken hold.new partial.new waiting.new result out.old out.new counts.old counts.new }
 {
+    if !accepted {
+        return was;
+    }
     let begin = blocks::whole_blocks(taken, a);
     let end = blocks::whole_blocks(taken + piece.len(), a);
     let mut standing = was;

@@ -237,6 +237,7 @@ impl Reader {
         );
         if answer.is_ok() {
             let now = pieces::absorb::absorb(
+                true,
                 dss,
                 a,
                 self.taken,

@@ -135,14 +135,16 @@ fn run<C: Case>(rt: &impl Print, list: &[u8]) -> io::Result<()> {
     replay.conclude()
 }
 
-// Runs through the list on standard input. ROOM is more bytes than it has.
-pub fn replay_list<C: Case, const ROOM: usize>(rt: &(impl Input + Print)) -> io::Result<()>
+// Runs through the list on standard input, and answers whether it did: ROOM is more bytes than a list has.
+pub fn replay_list<C: Case, const ROOM: usize>(rt: &(impl Input + Print)) -> io::Result<bool>
     requires { ROOM < 2 ^ 63 }
 {
     let mut space = [0u8; ROOM];
     let n = test_tools::read_full(rt, &mut space)?;
     if n == ROOM {
-        return println!(rt; "the list is too long");
+        println!(rt; "the list is too long")?;
+        return Ok(false);
     }
-    run::<C>(rt, &space[..n])
+    run::<C>(rt, &space[..n])?;
+    Ok(true)
 }

@@ -36,15 +36,18 @@ fn piece_end(cuts: Cuts, at: usize, long: usize) -> usize
     at + 1 + far.min(long - at - 1)
 }
 
-// Feeds a piece to a reader.
+// Feeds a piece to a reader. Written where it is called, and what came counted before the reader is put in its place: a reader goes by value here, and
+// is not copied more often then.
+#[inline(always)]
 pub fn take_piece(fed: Fed, piece: &[u8], out: &mut [u8], counts: &mut [u8]) -> Fed
     requires { Reached fed.reader }
     ensures { Reached result.reader }
 {
     let step = fed.reader.piece(piece, out, counts);
+    let sums = count_in(fed.sums, step.answer, piece.len(), out, counts);
     Fed {
         reader: step.reader,
-        sums: count_in(fed.sums, step.answer, piece.len(), out, counts),
+        sums,
     }
 }
 

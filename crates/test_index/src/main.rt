@@ -13,5 +13,6 @@ mod calls;
 mod making;
 
 fn main(rt: HostRuntime) -> io::Result<()> {
-    test_expected::replay_list::<calls::Indexes, 1048576>(&rt)
+    test_expected::replay_list::<calls::Indexes, 1048576>(&rt)?;
+    Ok(())
 }

@@ -9,5 +9,6 @@ use std::io;
 mod calls;
 
 fn main(rt: HostRuntime) -> io::Result<()> {
-    test_expected::replay_list::<calls::Packets, 196608>(&rt)
+    test_expected::replay_list::<calls::Packets, 196608>(&rt)?;
+    Ok(())
 }

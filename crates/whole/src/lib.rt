@@ -120,6 +120,6 @@ pub fn payload(file: &[u8], block: usize) -> &[u8]
         Ok(recording) if block < recording.blocks => {
             blocks::payload_part(file, recording.start, block)
         }
-        _ => &[],
+        _ => &file[..0],
     }
 }

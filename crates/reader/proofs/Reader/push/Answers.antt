@@ -1,5 +1,6 @@
 -- `reader::Reader::push` meets its contract: the survey says what is said at the state, and an accepted piece leaves the next one.
 -- Assumes nothing.
+use mathlib.Core.Path.{refl}
 use native.Mathlib.Omega.{arith}
 use Rattle.blocks.specs.Headers.{Bytes}
 use Rattle.refusals.proofs.Results.{ok_says, err_says}
@@ -19,7 +20,7 @@ decide-answer-requires-clause-known c =
     rw c.standing-was.ensures (knows v.state v.is c.start_of-a.ensures.0 _ v.sound bytes)
 
 pub absorb-now-requires-clause-able : goal.absorb-now-requires-clause-able
-absorb-now-requires-clause-able c =
+absorb-now-requires-clause-able c = λ _.
     let v = c.requires in
     let bytes : Bytes c.args.piece.now = λ i. omega (arith, c.type_inv.piece i) in
     rw c.standing-was.ensures
@@ -31,7 +32,7 @@ returns-then-is_ok c =
     let bytes : Bytes c.args.piece.now = λ i. omega (arith, c.type_inv.piece i) in
     λ s is sound.
     takes s is c.start_of-a.ensures.0 _ sound bytes (decided (goal.at.returns-then-is_ok c).After-decide-answer)
-    (ok_says _ c.if-is_ok.ensures.value).1 (rw c.standing-was.ensures at c.absorb-now.ensures)
+    (ok_says _ c.if-is_ok.ensures.value).1 (rw c.standing-was.ensures at c.absorb-now.ensures.taken refl)
 
 pub returns-else-is_ok : goal.returns-else-is_ok
 returns-else-is_ok c =
